@@ -1,0 +1,6 @@
+pub mod Admitted
+pub mod Placing
+pub mod Positions
+pub mod Ranks
+pub mod Rounding
+pub mod Steps

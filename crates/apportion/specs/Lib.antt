@@ -1,0 +1,3 @@
+pub mod Cutting
+pub mod LargestRemainder
+pub mod RunningCut

@@ -1,0 +1,14 @@
+// Cuts a total into whole shares by weights: the trait of cutting rules, two rules, and a cut by any rule.
+mod admission;
+mod fault;
+mod largest_remainder;
+mod portion;
+mod rule;
+mod running_cut;
+
+pub use fault::CutFault;
+pub use largest_remainder::ByLargestRemainder;
+pub use largest_remainder::LargestRemainder;
+pub use rule::CutRule;
+pub use running_cut::ByRunningCut;
+pub use running_cut::RunningCut;
