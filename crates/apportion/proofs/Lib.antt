@@ -1,4 +1,5 @@
 pub mod Admitted
+pub mod HandedOut
 pub mod Placing
 pub mod Positions
 pub mod Ranks

@@ -9,7 +9,7 @@ ghost use Rattle.std.specs.declared.option.Option.the-variants.{Some, None};
 ghost use Rattle.apportion.specs.Cutting.{heaviest, numberOf, refusal};
 use crate::fault::CutFault;
 
-const MOST_WEIGHTS: usize = 16;
+pub const MOST_WEIGHTS: usize = 16;
 const HEAVIEST: u64 = 1_000_000_000;
 
 // The sum of the weights, or nothing where it passes the greatest that a cut takes. The sum of u64 weights does not wrap.

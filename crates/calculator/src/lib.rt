@@ -1,0 +1,10 @@
+// A shipper's calculator: what a request on the command line asks for, and the line that answers it.
+mod cuts;
+mod numbers;
+mod reply;
+mod request;
+
+pub use numbers::read_numbers;
+pub use numbers::spaced_line;
+pub use reply::Reply;
+pub use request::reply_to;
