@@ -19,10 +19,10 @@ sum-parts whole weights parts shared based =
     ⊎-elim
     (shared .adds)
     (λ (none : sum weights ≤ 0). let z : sum weights ≡ 0 = omega arith in
-      ap sum (shared .nothing z (based z)) ∙ sum-zeros (length weights) ∙ sym (based z))
+    ap sum (shared .nothing z (based z)) ∙ sum-zeros (length weights) ∙ sym (based z))
     (cases-lt 0 (sum weights))
 
 pub sum-handed-out : (whole : ℕ) (weights parts : List ℕ) (n : ℕ) → Shared whole weights parts → (sum weights ≡ 0 → whole ≡ 0)
-  → sum (parts ++ replicate n 0) ≡ whole
+    → sum (parts ++ replicate n 0) ≡ whole
 sum-handed-out whole weights parts n shared based =
     sumBy-append (λ x. x) parts (replicate n 0) ∙ omega (arith, sum-zeros n, sum-parts whole weights parts shared based)

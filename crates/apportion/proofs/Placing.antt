@@ -16,7 +16,7 @@ abbrev pub filled : (ℕ → ℕ) → ℕ → List ℕ → List ℕ
 filled f i places = map f (counting 0 i) ++ drop i places
 
 pub filled-more : (f : ℕ → ℕ) (places : List ℕ) (i v : ℕ) → i < length places → v ≡ f i
-  → set (filled f i places) i v ≡ filled f (i + 1) places
+    → set (filled f i places) i v ≡ filled f (i + 1) places
 filled-more f places i v h e =
     ap (λ rest. set (map f (counting 0 i) ++ rest) i v) (drop-more places i 0 h)
     ∙ set-at (map f (counting 0 i)) _ (drop (i + 1) places) v i (length-map-counting f 0 i)
@@ -26,6 +26,6 @@ filled-more f places i v h e =
 
 -- what an accepted cut leaves: the shares in front, and the places beyond them as they stood
 pub leaves-filled : (f : ℕ → ℕ) (n : ℕ) (refused : Option ℕ) (places : List ℕ) → refused ≡ None
-  → leaves refused (map f (counting 0 n)) places ≡ filled f n places
+    → leaves refused (map f (counting 0 n)) places ≡ filled f n places
 leaves-filled f n refused places none =
     rw none (ap (λ k. map f (counting 0 n) ++ drop k places) (length-map-counting f 0 n))

@@ -78,4 +78,4 @@ map-zero f n none =
     let sized = length-map-counting f 0 n in
     same-lists _ _ (sized ∙ sym (length-replicate n 0))
     (λ k d h. let l : k < n = omega arith in
-      getD-map-counting f 0 n k k d l (zero-add k) ∙ none k l ∙ sym (getD-replicate n k 0 d l))
+    getD-map-counting f 0 n k k d l (zero-add k) ∙ none k l ∙ sym (getD-replicate n k 0 d l))

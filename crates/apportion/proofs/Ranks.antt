@@ -68,7 +68,7 @@ module _ (before : ℕ → ℕ → Bool) (strict : Strict before) where
   chosen n l = over (λ k. one-if (ltb (rank before n k) l)) n
 
   same-choice : (n l : ℕ) → l ≤ rank before n n → (k : ℕ) → k < n
-    → one-if (ltb (rank before (suc n) k) l) ≡ one-if (ltb (rank before n k) l)
+      → one-if (ltb (rank before (suc n) k) l) ≡ one-if (ltb (rank before n k) l)
   same-choice n l h k below =
       ⊎-elim
       (λ b. agree _ _ l l (λ g. omega (arith, rank-grows n k, ap one-if b, rank-after n k b)) (λ g. omega (arith, rank-grows n k, ap one-if b, rank-after n k b)))
@@ -76,7 +76,7 @@ module _ (before : ℕ → ℕ → Bool) (strict : Strict before) where
       (cases-bool (before n k))
 
   next-choice : (n l : ℕ) → rank before n n < suc l → (k : ℕ) → k < n
-    → one-if (ltb (rank before (suc n) k) (suc l)) ≡ one-if (ltb (rank before n k) l)
+      → one-if (ltb (rank before (suc n) k) (suc l)) ≡ one-if (ltb (rank before n k) l)
   next-choice n l h k below =
       ⊎-elim
       (λ b. agree _ _ (suc l) l (λ g. omega (arith, rank-grows n k, ap one-if b)) (λ g. omega (arith, rank-grows n k, ap one-if b)))
@@ -89,8 +89,18 @@ module _ (before : ℕ → ℕ → Bool) (strict : Strict before) where
   choice (suc n) (suc l) h =
       let f : ℕ → ℕ = λ k. one-if (ltb (rank before (suc n) k) (suc l)) in
       ⊎-elim
-      (λ r. omega (arith, over-suc f n, over-same f (λ k. one-if (ltb (rank before n k) l)) n (next-choice n l r), choice n l (omega arith),
-        ap one-if (lt-ltb (rank before (suc n) n) (suc l) (omega (arith, rank-own n)))))
-      (λ r. omega (arith, over-suc f n, over-same f (λ k. one-if (ltb (rank before n k) (suc l))) n (same-choice n (suc l) r), choice n (suc l) (omega (arith, rank-le n n)),
-        ap one-if (le-ltb (rank before (suc n) n) (suc l) (omega (arith, rank-own n)))))
+      (λ r. omega (
+        arith,
+        over-suc f n,
+        over-same f (λ k. one-if (ltb (rank before n k) l)) n (next-choice n l r),
+        choice n l (omega arith),
+        ap one-if (lt-ltb (rank before (suc n) n) (suc l) (omega (arith, rank-own n))),
+      ))
+      (λ r. omega (
+        arith,
+        over-suc f n,
+        over-same f (λ k. one-if (ltb (rank before n k) (suc l))) n (same-choice n (suc l) r),
+        choice n (suc l) (omega (arith, rank-le n n)),
+        ap one-if (le-ltb (rank before (suc n) n) (suc l) (omega (arith, rank-own n))),
+      ))
       (cases-lt (rank before n n) (suc l))

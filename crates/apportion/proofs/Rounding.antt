@@ -67,12 +67,16 @@ module _ (total : ℕ) (weights : List ℕ) where
   next-whole-le i h =
       ⊎-elim
       (λ positive. omega (arith, whole-le positive, over-suc (wholePart total weights) i, over-upto (wholePart total weights) (suc i) count h))
-      (λ (none : sum weights ≤ 0). omega (arith, over-suc (wholePart total weights) i, over-const 0 (suc i),
-        over-same (wholePart total weights) (λ _. 0) (suc i) (λ k _. no-part k (omega arith))))
+      (λ (none : sum weights ≤ 0). omega (
+        arith,
+        over-suc (wholePart total weights) i,
+        over-const 0 (suc i),
+        over-same (wholePart total weights) (λ _. 0) (suc i) (λ k _. no-part k (omega arith)),
+      ))
       (cases-lt 0 (sum weights))
     where
-    no-part : (k : ℕ) → sum weights ≡ 0 → wholePart total weights k ≡ 0
-    no-part k none = rw none (div-zero (total * getD weights k 0))
+      no-part : (k : ℕ) → sum weights ≡ 0 → wholePart total weights k ≡ 0
+      no-part k none = rw none (div-zero (total * getD weights k 0))
 
   -- the units left over are what the remainders come to
   left-is : 0 < sum weights → sum weights * leftOver total weights ≡ over (remainder total weights) count
@@ -82,37 +86,49 @@ module _ (total : ℕ) (weights : List ℕ) where
   left-le : 0 < sum weights → leftOver total weights ≤ count
   left-le positive =
       le-of-mul-le-mul-left {k = sum weights}
-      (omega (arith, left-is positive, over-const (sum weights) count, mul-comm count (sum weights),
-        over-le (remainder total weights) (λ _. sum weights) count (λ k _. omega (arith, below positive k))))
+      (omega (
+        arith,
+        left-is positive,
+        over-const (sum weights) count,
+        mul-comm count (sum weights),
+        over-le (remainder total weights) (λ _. sum weights) count (λ k _. omega (arith, below positive k)),
+      ))
       positive
 
   -- at most as many units are left over as positions have a remainder
   few : 0 < sum weights → leftOver total weights ≤ over (λ j. one-if (ltb 0 (remainder total weights j))) count
   few positive =
       le-of-mul-le-mul-left {k = sum weights}
-      (omega (arith, left-is positive, over-mul (sum weights) (λ j. one-if (ltb 0 (remainder total weights j))) count,
+      (omega (
+        arith,
+        left-is positive,
+        over-mul (sum weights) (λ j. one-if (ltb 0 (remainder total weights j))) count,
         over-le (remainder total weights) (λ j. sum weights * one-if (ltb 0 (remainder total weights j))) count
-        (λ j _. capped (remainder total weights j) (below positive j))))
+            (λ j _. capped (remainder total weights j) (below positive j)),
+      ))
       positive
     where
-    capped : (r : ℕ) → r < sum weights → r ≤ sum weights * one-if (ltb 0 r)
-    capped r h =
-        ⊎-elim
-        (λ p. rw (lt-ltb 0 r p) (omega (arith, mul-one (sum weights))))
-        (λ n. omega arith)
-        (cases-lt 0 r)
+      capped : (r : ℕ) → r < sum weights → r ≤ sum weights * one-if (ltb 0 r)
+      capped r h =
+          ⊎-elim
+          (λ p. rw (lt-ltb 0 r p) (omega (arith, mul-one (sum weights))))
+          (λ n. omega arith)
+          (cases-lt 0 r)
 
   -- where a position gets a unit more, something was cut off there
   earned : 0 < sum weights → (k : ℕ) → ahead total weights k < leftOver total weights → 0 < remainder total weights k
   earned positive k h =
       ⊎-elim (λ p. p)
-      (λ none. absurd (omega (arith, few positive,
+      (λ none. absurd (omega (
+        arith,
+        few positive,
         over-le (λ j. one-if (ltb 0 (remainder total weights j))) (λ j. one-if (precedes total weights j k)) count
-        (λ j _. one-if-le _ _ (precede (remainder total weights j) (remainder total weights k) j none)))))
+            (λ j _. one-if-le _ _ (precede (remainder total weights j) (remainder total weights k) j none)),
+      )))
       (cases-lt 0 (remainder total weights k))
     where
-    precede : (a b j : ℕ) → b ≤ 0 → ltb 0 a ≡ true → first a b j k ≡ true
-    precede a b j none some = grind (arith, tells)
+      precede : (a b j : ℕ) → b ≤ 0 → ltb 0 a ≡ true → first a b j k ≡ true
+      precede a b j none some = grind (arith, tells)
 
   sum-is : 0 < sum weights → sum (largestRemainder total weights) ≡ total
   sum-is positive =
@@ -133,8 +149,12 @@ module _ (total : ℕ) (weights : List ℕ) where
 
   under-by : 0 < sum weights → (k : ℕ) → total * getD weights k 0 < sum weights * shareByRemainder total weights k + sum weights
   under-by positive k =
-      omega (arith, parted k, below positive k,
-        mul-add (sum weights) (wholePart total weights k) (extra k))
+      omega (
+        arith,
+        parted k,
+        below positive k,
+        mul-add (sum weights) (wholePart total weights k) (extra k),
+      )
 
   nothing : total ≡ 0 → (k : ℕ) → shareByRemainder total weights k ≡ 0
   nothing none k =

@@ -10,6 +10,7 @@ ghost use Rattle.apportion.specs.Cutting.{heaviest, numberOf, refusal};
 use crate::fault::CutFault;
 
 pub const MOST_WEIGHTS: usize = 16;
+
 const HEAVIEST: u64 = 1_000_000_000;
 
 // The sum of the weights, or nothing where it passes the greatest that a cut takes. The sum of u64 weights does not wrap.
@@ -27,7 +28,12 @@ fn weigh(weights: &[u64]) -> Option<u64>
 }
 
 // The sum of the weights where the cut may go ahead; otherwise its refusal.
-pub(crate) fn admit(greatest: u64, total: u64, weights: &[u64], places: usize) -> Result<u64, CutFault>
+pub(crate) fn admit(
+    greatest: u64,
+    total: u64,
+    weights: &[u64],
+    places: usize,
+) -> Result<u64, CutFault>
     ensures { λ r. ⌜ Cases r (λ whole. (refusal greatest total (now (weights .entry)) places ≡ None) × (whole ≡ sum (now (weights .entry)))) (λ fault. refusal greatest total (now (weights .entry)) places ≡ Some (numberOf fault)) ⌝ }
 {
     if weights.len() > MOST_WEIGHTS {

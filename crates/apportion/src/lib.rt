@@ -6,7 +6,6 @@ mod portion;
 mod rule;
 mod running_cut;
 mod sharing;
-
 #[cfg(test)]
 mod tests;
 

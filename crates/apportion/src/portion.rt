@@ -8,5 +8,9 @@ pub(crate) fn portion(total: u64, weight: u64, whole: u64) -> u64
     requires { ⌜ total ≤ greatestTotal ⌝ ∗ ⌜ weight ≤ heaviest ⌝ }
     ensures { λ r. ⌜ r ≡ total * weight / whole ⌝ }
 {
-    if whole == 0 { 0 } else { total * weight / whole }
+    if whole == 0 {
+        0
+    } else {
+        total * weight / whole
+    }
 }

@@ -1,10 +1,10 @@
 use crate::ByLargestRemainder;
 use crate::ByRunningCut;
-use crate::fault::CutFaultDebug;
-use crate::fault::CutFaultPartialEq;
 use crate::CutRule;
 use crate::LargestRemainder;
 use crate::RunningCut;
+use crate::fault::CutFaultDebug;
+use crate::fault::CutFaultPartialEq;
 use crate::share_out;
 use std::test::*;
 
@@ -81,5 +81,8 @@ fn shared_out_in_full() -> Result<(), Fail> {
     let mut shares = [0; 16];
     shares[0] = 1_000_000_000;
     shares[1] = 2_000_000_000;
-    check_eq(share_out(&LargestRemainder, 3_000_000_000, &[1, 2]), Ok(shares))
+    check_eq(
+        share_out(&LargestRemainder, 3_000_000_000, &[1, 2]),
+        Ok(shares),
+    )
 }

@@ -51,12 +51,12 @@ module _ {A : Type 0} where
 
   -- the name and the rest of the words, as numbers, make the request
   pub asked : (word : String A) (words : List (String A)) (numbers : List ℕ) → WriteAll words numbers → (o : Option Reply)
-    → AnsweredBy (Named (string-bytes word) numbers) o → AnsweredBy (Asks (word ∷ words)) o
+      → AnsweredBy (Named (string-bytes word) numbers) o → AnsweredBy (Asks (word ∷ words)) o
   asked word words numbers all None none = λ request made.
       none request (subst (λ ns. Named (string-bytes word) ns request) (write-all-same words (made .0) numbers (made .1) all) (made .2))
   asked word words numbers all (Some reply) h = (h .0, (numbers, all, h .1), h .2)
 
   -- words that begin with this one, and the rest as the checker reads it
   pub opened : (words : List (String A)) (word : String A) → 0 < length words → word ≡ getD words 0 word
-    → word ∷ take (length words - 1) (drop 1 words) ≡ words
+      → word ∷ take (length words - 1) (drop 1 words) ≡ words
   opened words word some first = ap (λ w. w ∷ take (length words - 1) (drop 1 words)) first ∙ sym (first-rest words word some)

@@ -13,14 +13,14 @@ use Rattle.calculator.specs.Replies.{Writes, WriteAll, spaced}
 
 module _ {A : Type 0} where
   pub write-all-push : (ws : List (String A)) (ns : List ℕ) (w : String A) (n : ℕ)
-    → WriteAll ws ns → Writes (string-bytes w) n → WriteAll (ws ++ w ∷ []) (ns ++ n ∷ [])
+      → WriteAll ws ns → Writes (string-bytes w) n → WriteAll (ws ++ w ∷ []) (ns ++ n ∷ [])
   write-all-push [] [] w n h one = (one, tt)
   write-all-push [] (m ∷ ns) w n h one = absurd h
   write-all-push (v ∷ ws) [] w n h one = absurd h
   write-all-push (v ∷ ws) (m ∷ ns) w n h one = (h .0, write-all-push ws ns w n (h .1) one)
 
   pub write-all-at : (ws : List (String A)) (ns : List ℕ) (k : ℕ) (d : String A)
-    → WriteAll ws ns → k < length ws → (n : ℕ) × Writes (string-bytes (getD ws k d)) n
+      → WriteAll ws ns → k < length ws → (n : ℕ) × Writes (string-bytes (getD ws k d)) n
   write-all-at [] ns k d h l = absurd (not-suc-le-zero l)
   write-all-at (w ∷ ws) [] k d h l = absurd h
   write-all-at (w ∷ ws) (n ∷ ns) zero d h l = (n, h .0)

@@ -20,17 +20,28 @@ pub(crate) fn refused_with(heap: Global, number: u8) -> Result<Reply, AllocError
     ensures { λ r. ⌜ made r (λ reply. Says reply (Some number) []) ⌝ }
 {
     let line = format!(heap, "REFUSED {number}")?;
-    Ok(Reply { line, refused: true })
+    Ok(Reply {
+        line,
+        refused: true,
+    })
 }
 
 // The shares of a total by weights under a rule, or the number of the refusal.
-pub(crate) fn reply_to_cut<R: CutRule>(heap: Global, rule: &R, total: u64, weights: &[u64]) -> Result<Reply, AllocError>
+pub(crate) fn reply_to_cut<R: CutRule>(
+    heap: Global,
+    rule: &R,
+    total: u64,
+    weights: &[u64],
+) -> Result<Reply, AllocError>
     ensures { λ r. ⌜ made r (λ reply. Says reply (refusal greatest total (now (weights .entry)) mostWeights) (shares (now (rule .entry)) total (now (weights .entry)))) ⌝ }
 {
     match share_out(rule, total, weights) {
         Ok(places) => {
             let line = spaced_line(heap, &places[0..weights.len()])?;
-            Ok(Reply { line, refused: false })
+            Ok(Reply {
+                line,
+                refused: false,
+            })
         }
         Err(fault) => refused_with(heap, fault.number()),
     }

@@ -4,7 +4,8 @@ mod numbers;
 mod reply;
 mod request;
 
-pub use numbers::read_numbers;
-pub use numbers::spaced_line;
+#[cfg(test)]
+mod tests;
+
 pub use reply::Reply;
 pub use request::reply_to;

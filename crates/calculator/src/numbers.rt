@@ -11,7 +11,7 @@ use std::alloc::AllocError;
 use std::alloc::Global;
 
 // The numbers that the words write, or nothing where a word writes none that 64 bits hold.
-pub fn read_numbers(heap: Global, words: &[String]) -> Result<Option<Vec<u64>>, AllocError>
+pub(crate) fn read_numbers(heap: Global, words: &[String]) -> Result<Option<Vec<u64>>, AllocError>
     ensures { λ r. ⌜ made r (λ o. BySome o ((ns : List ℕ) → WriteAll (now (words .entry)) ns → ⊥) (λ v. WriteAll (now (words .entry)) (vec-items v))) ⌝ }
 {
     let mut numbers = Vec::new(heap);
@@ -25,7 +25,7 @@ pub fn read_numbers(heap: Global, words: &[String]) -> Result<Option<Vec<u64>>, 
 }
 
 // The numbers on one line, parted by blanks.
-pub fn spaced_line(heap: Global, numbers: &[u64]) -> Result<String, AllocError>
+pub(crate) fn spaced_line(heap: Global, numbers: &[u64]) -> Result<String, AllocError>
     ensures { λ r. ⌜ made r (λ line. string-bytes line ≡ spaced (now (numbers .entry))) ⌝ }
 {
     let mut line = String::new(heap);

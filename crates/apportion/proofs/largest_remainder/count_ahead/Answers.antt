@@ -34,7 +34,12 @@ pub add-count : need.add-count
 add-count c = record { fits = omega (arith, one-at-most c) }
 
 pub loop-i-again : need.loop-i-again
-loop-i-again c =
-    (omega (arith, added c, over-suc (λ j. one-if (precedes (c .args .total) (c .args .weights .now) j (c .args .position))) (c .loop-i .i),
-      ap (over (λ j. one-if (precedes (c .args .total) (c .args .weights .now) j (c .args .position)))) (add-one (c .loop-i .i))),
-     omega (arith, one-at-most c))
+loop-i-again c = (
+  omega (
+    arith,
+    added c,
+    over-suc (λ j. one-if (precedes (c .args .total) (c .args .weights .now) j (c .args .position))) (c .loop-i .i),
+    ap (over (λ j. one-if (precedes (c .args .total) (c .args .weights .now) j (c .args .position)))) (add-one (c .loop-i .i)),
+  ),
+  omega (arith, one-at-most c),
+)

@@ -20,6 +20,10 @@ sub-left c = omega (arith, part-is c, next-whole-le (c .args .total) (c .args .w
 
 pub loop-weight-again : need.loop-weight-again
 loop-weight-again c =
-    omega (arith, part-is c, next-whole-le (c .args .total) (c .args .weights .now) (c .loop-weight .weight-index) (c .loop-weight-test .taken),
+    omega (
+      arith,
+      part-is c,
+      next-whole-le (c .args .total) (c .args .weights .now) (c .loop-weight .weight-index) (c .loop-weight-test .taken),
       over-suc (wholePart (c .args .total) (c .args .weights .now)) (c .loop-weight .weight-index),
-      ap (over (wholePart (c .args .total) (c .args .weights .now))) (add-one (c .loop-weight .weight-index)))
+      ap (over (wholePart (c .args .total) (c .args .weights .now))) (add-one (c .loop-weight .weight-index)),
+    )

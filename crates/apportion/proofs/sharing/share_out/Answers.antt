@@ -19,11 +19,11 @@ returns g c =
     let ok : Admitted (g .R·CutRule .greatest) total weights mostWeights = admitted (g .R·CutRule .greatest) total weights mostWeights none in
     let shared : Shared total weights parts = g .R·CutRule·met .fair (c .args .rule .now) total weights (ok .small) (ok .few) (ok .light) in
     let stands : c .cut .last .places ≡ parts ++ replicate (mostWeights - length weights) 0 =
-          c .cut .ensures .places ∙ ap (λ o. leaves o parts (replicate mostWeights 0)) none
-          ∙ ap (λ n. parts ++ drop n (replicate mostWeights 0)) (shared .sized)
-          ∙ ap (λ rest. parts ++ rest) (drop-replicate (length weights) mostWeights 0) in
+    c .cut .ensures .places ∙ ap (λ o. leaves o parts (replicate mostWeights 0)) none
+    ∙ ap (λ n. parts ++ drop n (replicate mostWeights 0)) (shared .sized)
+    ∙ ap (λ rest. parts ++ rest) (drop-replicate (length weights) mostWeights 0) in
     record {
       answer = sym none;
       shares = stands;
-      handed-out = ap sum stands ∙ sum-handed-out total weights parts (mostWeights - length weights) shared (ok .based)
+      handed-out = ap sum stands ∙ sum-handed-out total weights parts (mostWeights - length weights) shared (ok .based);
     }

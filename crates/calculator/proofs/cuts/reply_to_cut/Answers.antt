@@ -20,10 +20,10 @@ returns-in-Continue-line g c =
     let ok : Admitted (g .R·CutRule .greatest) total weights mostWeights = admitted (g .R·CutRule .greatest) total weights mostWeights none in
     let shared : Shared total weights parts = g .R·CutRule·met .fair (c .args .rule .now) total weights (ok .small) (ok .few) (ok .light) in
     let front : take (length weights) (c .in-Ok .places) ≡ parts =
-          ap (take (length weights)) (c .in-Ok .ensures tt .shares) ∙ take-at parts (replicate (mostWeights - length weights) 0) (length weights) (shared .sized) in
+    ap (take (length weights)) (c .in-Ok .ensures tt .shares) ∙ take-at parts (replicate (mostWeights - length weights) 0) (length weights) (shared .sized) in
     record {
       line =
-        c .in-Continue-line .ensures tt ∙ ap (λ n. spaced (take n (c .in-Ok .places))) (sub-zero (length weights)) ∙ ap spaced front
-        ∙ ap (λ o. replyLine o parts) (sym none);
-      refused = ap isSome (sym none)
+          c .in-Continue-line .ensures tt ∙ ap (λ n. spaced (take n (c .in-Ok .places))) (sub-zero (length weights)) ∙ ap spaced front
+          ∙ ap (λ o. replyLine o parts) (sym none);
+      refused = ap isSome (sym none);
     }

@@ -29,8 +29,8 @@ loop-word-again c =
     let here = take-more words (c .loop-word .word-index) word (c .loop-word-test .taken) ∙ ap (λ w. take (c .loop-word .word-index) words ++ w ∷ []) (sym (c .word-item .is)) in
     subst (λ ns. WriteAll (take (c .loop-word .word-index + 1) words) ns) (sym (c .in-Continue-push .ensures tt .items))
     (subst (λ ws. WriteAll ws (vec-items (c .loop-word .numbers) ++ c .in-Ok .number ∷ [])) (sym here)
-      (write-all-push (take (c .loop-word .word-index) words) (vec-items (c .loop-word .numbers)) word (c .in-Ok .number) (c .loop-word .inv)
-        (subst (λ bs. Writes bs (c .in-Ok .number)) (c .as-str .ensures .value) writes)))
+    (write-all-push (take (c .loop-word .word-index) words) (vec-items (c .loop-word .numbers)) word (c .in-Ok .number) (c .loop-word .inv)
+    (subst (λ bs. Writes bs (c .in-Ok .number)) (c .as-str .ensures .value) writes)))
 
 pub returns : need.returns
 returns c =

@@ -28,8 +28,8 @@ returns c =
     let all : WriteAll (take (length words - 1) (drop 1 words)) numbers = cases-at-some _ _ (c .in-Some .numbers) (c .in-Some .is) (c .in-Continue-numbers .ensures tt) in
     made-weaker (c .reply-by-name .result) _ _
     (λ o h.
-      subst (λ ws. AnsweredBy (Asks ws) o) (opened words (c .name-item .result) some (c .name-item .is))
-      (asked (c .name-item .result) (take (length words - 1) (drop 1 words)) numbers all o
-        (subst (λ name. AnsweredBy (Named name numbers) o) (c .as-str .ensures .value)
-          (subst (λ ns. AnsweredBy (Named (c .as-str .result .now) ns) o) (c .deref .ensures .value) h))))
+    subst (λ ws. AnsweredBy (Asks ws) o) (opened words (c .name-item .result) some (c .name-item .is))
+    (asked (c .name-item .result) (take (length words - 1) (drop 1 words)) numbers all o
+    (subst (λ name. AnsweredBy (Named name numbers) o) (c .as-str .ensures .value)
+    (subst (λ ns. AnsweredBy (Named (c .as-str .result .now) ns) o) (c .deref .ensures .value) h))))
     (c .reply-by-name .ensures)

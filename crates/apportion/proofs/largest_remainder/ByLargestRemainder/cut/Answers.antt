@@ -31,9 +31,14 @@ pub add-places : need.add-places
 add-places c =
     let ok = admitted greatestTotal (c .args .total) (c .args .weights .now) (length (c .args .places .now)) (c .in-Continue-whole .ensures tt .0) in
     record {
-      fits = omega (arith, ok, part-is c, extra-is c,
+      fits = omega (
+        arith,
+        ok,
+        part-is c,
+        extra-is c,
         next-whole-le (c .args .total) (c .args .weights .now) (c .loop-i .i) (c .loop-i-test .taken),
-        one-if-le-one (ltb (ahead (c .args .total) (c .args .weights .now) (c .loop-i .i)) (leftOver (c .args .total) (c .args .weights .now))))
+        one-if-le-one (ltb (ahead (c .args .total) (c .args .weights .now) (c .loop-i .i)) (leftOver (c .args .total) (c .args .weights .now))),
+      );
     }
 
 pub loop-i-again : need.loop-i-again
@@ -41,7 +46,7 @@ loop-i-again c =
     let ok = admitted greatestTotal (c .args .total) (c .args .weights .now) (length (c .args .places .now)) (c .in-Continue-whole .ensures tt .0) in
     ap (λ ps. set ps (c .loop-i .i) (c .portion .result + c .from-extra .result)) (c .loop-i .inv)
     ∙ filled-more (shareByRemainder (c .args .total) (c .args .weights .now)) (c .args .places .now) (c .loop-i .i) _ (omega arith)
-      (omega (arith, part-is c, extra-is c))
+    (omega (arith, part-is c, extra-is c))
 
 pub returns : need.returns
 returns c =
@@ -49,6 +54,6 @@ returns c =
     record {
       answer = sym (c .in-Continue-whole .ensures tt .0);
       places =
-        c .loop-i .inv ∙ ap (λ i. filled (shareByRemainder (c .args .total) (c .args .weights .now)) i (c .args .places .now)) n
-        ∙ sym (leaves-filled (shareByRemainder (c .args .total) (c .args .weights .now)) (length (c .args .weights .now)) _ (c .args .places .now) (c .in-Continue-whole .ensures tt .0))
+          c .loop-i .inv ∙ ap (λ i. filled (shareByRemainder (c .args .total) (c .args .weights .now)) i (c .args .places .now)) n
+          ∙ sym (leaves-filled (shareByRemainder (c .args .total) (c .args .weights .now)) (length (c .args .weights .now)) _ (c .args .places .now) (c .in-Continue-whole .ensures tt .0));
     }

@@ -36,10 +36,12 @@ sub-places c = omega (arith, portion-is c, up-to-rises (c .args .total) (c .args
 
 pub loop-i-again : need.loop-i-again
 loop-i-again c =
-    let ok = admitted greatestTotal (c .args .total) (c .args .weights .now) (length (c .args .places .now)) (c .in-Continue-whole .ensures tt .0) in
-    (weighed-more c, portion-is c,
-     ap (λ ps. set ps (c .loop-i .i) (c .portion-up-to .result - c .loop-i .handed-out)) (c .loop-i .inv .2)
-     ∙ filled-more (shareByRunning (c .args .total) (c .args .weights .now)) (c .args .places .now) (c .loop-i .i) _ (omega arith) (omega (arith, portion-is c)))
+    let ok = admitted greatestTotal (c .args .total) (c .args .weights .now) (length (c .args .places .now)) (c .in-Continue-whole .ensures tt .0) in (
+      weighed-more c,
+      portion-is c,
+      ap (λ ps. set ps (c .loop-i .i) (c .portion-up-to .result - c .loop-i .handed-out)) (c .loop-i .inv .2)
+          ∙ filled-more (shareByRunning (c .args .total) (c .args .weights .now)) (c .args .places .now) (c .loop-i .i) _ (omega arith) (omega (arith, portion-is c)),
+    )
 
 pub returns : need.returns
 returns c =
@@ -47,6 +49,6 @@ returns c =
     record {
       answer = sym (c .in-Continue-whole .ensures tt .0);
       places =
-        c .loop-i .inv .2 ∙ ap (λ i. filled (shareByRunning (c .args .total) (c .args .weights .now)) i (c .args .places .now)) n
-        ∙ sym (leaves-filled (shareByRunning (c .args .total) (c .args .weights .now)) (length (c .args .weights .now)) _ (c .args .places .now) (c .in-Continue-whole .ensures tt .0))
+          c .loop-i .inv .2 ∙ ap (λ i. filled (shareByRunning (c .args .total) (c .args .weights .now)) i (c .args .places .now)) n
+          ∙ sym (leaves-filled (shareByRunning (c .args .total) (c .args .weights .now)) (length (c .args .weights .now)) _ (c .args .places .now) (c .in-Continue-whole .ensures tt .0));
     }
