@@ -24,8 +24,9 @@ filled-more f places i v h e =
     ∙ sym (append-assoc (map f (counting 0 i)) (f i ∷ []) (drop (i + 1) places))
     ∙ ap (λ front. front ++ drop (i + 1) places) (sym (map-counting-more f 0 i i (zero-add i)))
 
--- what an accepted cut leaves: the shares in front, and the places beyond them as they stood
-pub leaves-filled : (f : ℕ → ℕ) (n : ℕ) (refused : Option ℕ) (places : List ℕ) → refused ≡ None
-    → leaves refused (map f (counting 0 n)) places ≡ filled f n places
-leaves-filled f n refused places none =
-    rw none (ap (λ k. map f (counting 0 n) ++ drop k places) (length-map-counting f 0 n))
+-- all shares written: what an accepted cut leaves
+pub filled-all : (f : ℕ → ℕ) (n i : ℕ) (refused : Option ℕ) (places after : List ℕ) → after ≡ filled f i places → i ≡ n → refused ≡ None
+    → after ≡ leaves refused (map f (counting 0 n)) places
+filled-all f n i refused places after written all none =
+    written ∙ ap (λ k. filled f k places) all ∙ ap (λ k. map f (counting 0 n) ++ drop k places) (sym (length-map-counting f 0 n))
+    ∙ ap (λ o. leaves o (map f (counting 0 n)) places) (sym none)

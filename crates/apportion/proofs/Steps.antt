@@ -24,7 +24,7 @@ telescoped f rises zero = omega arith
 telescoped f rises (suc n) =
     omega (arith, over-suc (λ k. f (k + 1) - f k) n, telescoped f rises n, rises n, ap f (add-one n))
 
-quotient-le : (a b w : ℕ) → a ≤ b → a / w ≤ b / w
+pub quotient-le : (a b w : ℕ) → a ≤ b → a / w ≤ b / w
 quotient-le a b w h =
     ⊎-elim
     (λ positive. le-div (a / w) b w positive (omega (arith, div-mul-le-self a w)))
@@ -44,7 +44,7 @@ module _ (total : ℕ) (weights : List ℕ) where
   sum-le k =
       omega (arith, sumBy-take-le (λ x. x) (take (k + 1) weights) k, ap sum (take-take k (k + 1) weights (omega arith)))
 
-  pub up-to-rises : (k : ℕ) → upTo total weights k ≤ upTo total weights (k + 1)
+  up-to-rises : (k : ℕ) → upTo total weights k ≤ upTo total weights (k + 1)
   up-to-rises k = quotient-le _ _ (sum weights) (mul-le-mul-left total (sum-le k))
 
   products : (k : ℕ) → k < length weights → total * sum (take (k + 1) weights) ≡ total * sum (take k weights) + total * getD weights k 0
@@ -72,3 +72,11 @@ module _ (total : ℕ) (weights : List ℕ) where
     under = λ positive k h. rw (placed k h) (step-under (sum weights) _ _ _ positive (products k h));
     nothing = λ _ none. map-zero (shareByRunning total weights) (length weights) (λ k _. nothing none k);
   }
+
+  -- the rise at a position, as the code has it: by the weights before it and the whole
+  pub rise-is : (i before whole rise : ℕ) → i < length weights → before ≡ sum (take i weights) → whole ≡ sum weights
+      → rise ≡ total * (before + getD weights i 0) / whole - total * before / whole → rise ≡ shareByRunning total weights i
+  rise-is i before whole rise h so-far all is =
+      is ∙ ap (λ b. total * (b + getD weights i 0) / whole - total * b / whole) so-far
+      ∙ ap (λ w. total * (sum (take i weights) + getD weights i 0) / w - total * sum (take i weights) / w) all
+      ∙ ap (λ s. total * s / sum weights - upTo total weights i) (sym (sumBy-more (λ x. x) weights i 0 h))

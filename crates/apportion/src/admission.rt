@@ -1,30 +1,26 @@
 // The refusals of a cut, in their order, for every rule.
 ghost use mathlib.Core.Path.{_≡_};
-ghost use Prim.Native.Nat.{_<_, _≤_};
+ghost use Prim.Native.Nat.{_-_, _^_, min};
 ghost use lib.ListN.{length};
-ghost use Rattle.std.specs.Options.{Cases as BySome};
 ghost use Rattle.std.specs.Results.{Cases};
 ghost use Rattle.std.specs.shelf.Lists.{sum};
 ghost use Rattle.std.specs.declared.option.Option.the-variants.{Some, None};
-ghost use Rattle.apportion.specs.Cutting.{heaviest, numberOf, refusal};
+ghost use Rattle.apportion.specs.Cutting.{numberOf, refusal};
 use crate::fault::CutFault;
 
 pub const MOST_WEIGHTS: usize = 16;
 
 const HEAVIEST: u64 = 1_000_000_000;
 
-// The sum of the weights, or nothing where it passes the greatest that a cut takes. The sum of u64 weights does not wrap.
-fn weigh(weights: &[u64]) -> Option<u64>
-    ensures { λ r. ⌜ BySome r (heaviest < sum (now (weights .entry))) (λ whole. (whole ≡ sum (now (weights .entry))) × (whole ≤ heaviest)) ⌝ }
+// The sum of the weights. It does not wrap: a sum that 64 bits do not hold is their greatest number.
+fn weigh(weights: &[u64]) -> u64
+    ensures { λ r. ⌜ r ≡ min (sum (now (weights .entry))) (2 ^ 64 - 1) ⌝ }
 {
-    let mut whole = 0;
+    let mut whole: u64 = 0;
     for weight in weights {
-        if *weight > HEAVIEST - whole {
-            return None;
-        }
-        whole += *weight;
+        whole = whole.saturating_add(*weight);
     }
-    Some(whole)
+    whole
 }
 
 // The sum of the weights where the cut may go ahead; otherwise its refusal.
@@ -42,9 +38,10 @@ pub(crate) fn admit(
     if places < weights.len() {
         return Err(CutFault::FewPlaces);
     }
-    let Some(whole) = weigh(weights) else {
+    let whole = weigh(weights);
+    if whole > HEAVIEST {
         return Err(CutFault::HeavyWeights);
-    };
+    }
     if total > greatest {
         return Err(CutFault::LargeTotal);
     }

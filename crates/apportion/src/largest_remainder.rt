@@ -6,7 +6,7 @@ ghost use lib.Dec.{ltb, eqb};
 ghost use lib.ListN.{length};
 ghost use Rattle.std.specs.shelf.Lists.{sum};
 ghost use Rattle.apportion.specs.Cutting.{greatestTotal, heaviest};
-ghost use Rattle.apportion.specs.LargestRemainder.{ahead, largestRemainder, leftOver, precedes, remainder};
+ghost use Rattle.apportion.specs.LargestRemainder.{ahead, largestRemainder, leftOver, shareByRemainder};
 use crate::admission::admit;
 use crate::fault::CutFault;
 use crate::portion::portion;
@@ -30,10 +30,26 @@ pub impl CutRule for LargestRemainder as ByLargestRemainder {
         let whole = admit(Self::GREATEST, total, weights, places.len())?;
         let left = left_over(total, weights, whole);
         for i in 0..weights.len() {
-            let extra = u64::from(count_ahead(total, weights, whole, i) < left);
-            places[i] = portion(total, weights[i], whole) + extra;
+            places[i] = share_at(total, weights, whole, left, i);
         }
         Ok(())
+    }
+}
+
+// The whole part, and one unit more where fewer positions precede than units are left over.
+fn share_at(total: u64, weights: &[u64], whole: u64, left: u64, position: usize) -> u64
+    requires small { ⌜ total ≤ greatestTotal ⌝ }
+    requires weighed { ⌜ whole ≡ sum (now weights) ⌝ }
+    requires light { ⌜ whole ≤ heaviest ⌝ }
+    requires over { ⌜ left ≡ leftOver total (now weights) ⌝ }
+    requires within { ⌜ position < length (now weights) ⌝ }
+    ensures { λ r. ⌜ r ≡ shareByRemainder total (now (weights .entry)) position ⌝ }
+{
+    let part = portion(total, weights[position], whole);
+    if count_ahead(total, weights, whole, position) < left {
+        part + 1
+    } else {
+        part
     }
 }
 

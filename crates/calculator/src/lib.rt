@@ -3,7 +3,6 @@ mod cuts;
 mod numbers;
 mod reply;
 mod request;
-
 #[cfg(test)]
 mod tests;
 

@@ -37,7 +37,11 @@ fn cuts_and_refusals(rt: LibcRuntime) -> Result<(), Fail> {
         Case("largest 1 0 0", "REFUSED 9", true),
         Case("running 3000000001 1", "REFUSED 8", true),
         Case("running 5 18446744073709551615 1", "REFUSED 6", true),
-        Case("largest 5 1 1 1 1 1 1 1 1 1 1 1 1 1 1 1 1 1", "REFUSED 3", true),
+        Case(
+            "largest 5 1 1 1 1 1 1 1 1 1 1 1 1 1 1 1 1 1",
+            "REFUSED 3",
+            true,
+        ),
     ];
     told(rt.alloc(), &cases)
 }

@@ -1,9 +1,8 @@
 use mathlib.Core.Path.{_≡_}
-use Prim.Native.Nat.{_≤_}
+use Prim.Native.Nat.{_-_, _^_, min}
 use lib.ListN.{take}
 use Rattle.std.specs.shelf.Lists.{sum}
-use Rattle.apportion.specs.Cutting.{heaviest}
 use Rattle.apportion.proofs.admission.weigh.Given as given
 
 abbrev pub Inv-loop-weight : given.InvT-loop-weight
-Inv-loop-weight l = (l .whole ≡ sum (take (l .weight-index) (l .weights))) × (l .whole ≤ heaviest)
+Inv-loop-weight l = l .whole ≡ min (sum (take (l .weight-index) (l .weights))) (2 ^ 64 - 1)
