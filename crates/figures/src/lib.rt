@@ -9,5 +9,5 @@ pub fn worked_figures() -> usize
     ensures count { λ r. ⌜ r ≡ length table ⌝ }
     ensures hold { λ _. ⌜ All Holds table ⌝ }
 {
-    8
+    18
 }

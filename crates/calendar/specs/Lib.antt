@@ -1,0 +1,3 @@
+-- The definitions that the contracts of the calendar cite.
+pub mod Calendar
+pub mod Rounding
