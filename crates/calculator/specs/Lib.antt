@@ -1,2 +1,3 @@
+pub mod FeeRequests
 pub mod Replies
 pub mod Requests

@@ -7,6 +7,8 @@ ghost use Rattle.apportion.specs.Cutting.{mostWeights, refusal};
 ghost use Rattle.calculator.specs.Requests.{AnsweredBy, Asks, Named, Says};
 use crate::cuts::reply_to_cut;
 use crate::numbers::read_numbers;
+use crate::prices::fee_by;
+use crate::prices::total_by;
 use crate::reply::Reply;
 use apportion::ByLargestRemainder;
 use apportion::ByRunningCut;
@@ -34,6 +36,8 @@ fn reply_by_name(heap: Global, name: &str, numbers: &[u64]) -> Result<Option<Rep
     match name {
         "largest" => cut_by(heap, &LargestRemainder, numbers),
         "running" => cut_by(heap, &RunningCut, numbers),
+        "total" => total_by(heap, numbers),
+        "fee" => fee_by(heap, numbers),
         _ => Ok(None),
     }
 }

@@ -47,6 +47,24 @@ fn cuts_and_refusals(rt: LibcRuntime) -> Result<(), Fail> {
 }
 
 #[test]
+fn totals_and_fees(rt: LibcRuntime) -> Result<(), Fail> {
+    let cases = [
+        Case("total 1 1", "1", false),
+        Case("total 1280000 2000", "2560000", false),
+        Case("total 1280001 1", "REFUSED 3", true),
+        Case("total 1 4294967296", "REFUSED 3", true),
+        Case("fee 2022 1 744 0 1067 1000", "9062", false),
+        Case("fee 2022 1 744 1 1067 1000", "22995", false),
+        Case("fee 2022 7 24 2 1067 100", "106", false),
+        Case("fee 2022 7 24 1 1067 100", "REFUSED 3", true),
+        Case("fee 2022 3 744 1 1067 100", "REFUSED 3", true),
+        Case("fee 2022 1 744 0 1067 2560001", "REFUSED 3", true),
+        Case("fee 2022 1 744 18446744073709551615 1067 1", "REFUSED 3", true),
+    ];
+    told(rt.alloc(), &cases)
+}
+
+#[test]
 fn bad_usage(rt: LibcRuntime) -> Result<(), Fail> {
     let cases = [
         Case("", "", false),
@@ -55,6 +73,8 @@ fn bad_usage(rt: LibcRuntime) -> Result<(), Fail> {
         Case("largest 10 18446744073709551616", "", false),
         Case("largest ten 1", "", false),
         Case("smallest 10 1", "", false),
+        Case("total 1", "", false),
+        Case("fee 2022 1 744 0 1067", "", false),
     ];
     told(rt.alloc(), &cases)
 }

@@ -1,0 +1,10 @@
+pub mod Complete
+pub mod Firsts
+pub mod Judged
+pub mod Kept
+pub mod Only
+pub mod Orders
+pub mod Passing
+pub mod Replayed
+pub mod Standing
+pub mod Within
