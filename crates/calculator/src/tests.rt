@@ -59,7 +59,11 @@ fn totals_and_fees(rt: LibcRuntime) -> Result<(), Fail> {
         Case("fee 2022 7 24 1 1067 100", "REFUSED 3", true),
         Case("fee 2022 3 744 1 1067 100", "REFUSED 3", true),
         Case("fee 2022 1 744 0 1067 2560001", "REFUSED 3", true),
-        Case("fee 2022 1 744 18446744073709551615 1067 1", "REFUSED 3", true),
+        Case(
+            "fee 2022 1 744 18446744073709551615 1067 1",
+            "REFUSED 3",
+            true,
+        ),
     ];
     told(rt.alloc(), &cases)
 }

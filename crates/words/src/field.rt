@@ -1,4 +1,4 @@
-// A field of a word: so many bits, from a lowest one on.
+// A field of a 32-bit word: so many bits, from a lowest one on.
 ghost use mathlib.Core.Path.{_≡_};
 ghost use Prim.Native.Nat.{_+_, _*_, _/_, _%_, _^_, _<_, _≤_};
 ghost use Rattle.std.specs.Numbers.{Checked};
@@ -17,10 +17,10 @@ impl Field {
     pub(crate) fn of(self, bits: u32) -> u32
         ensures { λ r. ⌜ r ≡ bits / 2 ^ self .low % 2 ^ self .width ⌝ }
     {
-        bits >> self.low & (1 << self.width) - 1
+        (bits >> self.low) & ((1 << self.width) - 1)
     }
 
-    // The bits with the value in the field, which was empty like all below it; nothing where the value has more bits than the field.
+    // The bits with the value put into the field, where it and all below were 0; nothing where the value has too many bits.
     pub(crate) fn put(self, bits: u32, value: u32) -> Option<u32>
         requires { ⌜ bits % 2 ^ (self .low + self .width) ≡ 0 ⌝ }
         ensures { λ r. ⌜ Checked r (value < 2 ^ self .width) (bits + value * 2 ^ self .low) ⌝ }
@@ -28,6 +28,6 @@ impl Field {
         if value >> self.width != 0 {
             return None;
         }
-        Some(bits | value << self.low)
+        Some(bits | (value << self.low))
     }
 }

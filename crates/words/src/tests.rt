@@ -110,18 +110,14 @@ fn unknown_kinds() -> Result<(), Fail> {
     Ok(())
 }
 
+// Three words and three bytes; the count of words stops at the greatest number.
 #[test]
-fn windows(rt: LibcRuntime) -> Result<(), Fail> {
-    let block = [0x60, 0, 1, 0x2C, 0x60, 0, 0, 0x64, 0x50, 0, 0];
-    let mut window = Window::new(&block, 12);
-    check_eq(window.next(), Some((12, 0x6000012C)))?;
-    check_eq(window.next(), Some((13, 0x60000064)))?;
-    check_eq(window.next(), None)?;
-    check_eq(window.number(), 14)?;
-    check_eq(window.left_over(), 3)?;
-    let words = collect_words(rt.alloc(), &block, u64::MAX)?;
-    check_eq(
-        words.as_slice(),
-        &[(u64::MAX, 0x6000012C), (u64::MAX, 0x60000064)],
-    )
+fn blocks(rt: LibcRuntime) -> Result<(), Fail> {
+    let block = b"\x60\x00\x01\x2C\x60\x00\x00\x64\x50\x10\x00\x00\x60\x00\x00";
+    let words = collect_words(rt.alloc(), block, u64::MAX - 1)?;
+    check(words.len() == 3)?;
+    check_eq(words[0], (u64::MAX - 1, 0x6000012C))?;
+    check_eq(words[1], (u64::MAX, 0x60000064))?;
+    check_eq(words[2], (u64::MAX, 0x50100000))?;
+    check_eq(Window::new(block, 12).left_over(), 3)
 }

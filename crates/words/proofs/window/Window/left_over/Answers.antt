@@ -1,6 +1,6 @@
-use mathlib.Core.Path.{sym}
+use native.Mathlib.Omega.{arith}
 use Rattle.words.proofs.Spelling.{length-left-over}
 use Rattle.words.proofs.window.Window.left_over.Needs as need
 
 pub returns : need.returns
-returns c = sym (length-left-over (c .args .self .now .rest .now))
+returns c = omega (arith, length-left-over (c .args .self .now .rest .now))

@@ -1,4 +1,5 @@
-use mathlib.Core.Path.{_≡_, refl, ap, _∙_}
+use borrow.Author.Needs.{needs}
+use mathlib.Core.Path.{_≡_, ap, _∙_}
 use mathlib.Core.List.{List, _++_}
 use Prim.Native.Nat.{ℕ}
 use native.Mathlib.Omega.{arith}
@@ -10,8 +11,8 @@ use Rattle.words.proofs.window.Window.new.Needs as need
 
 pub returns : need.returns
 returns c = record {
-  bytes = refl;
-  number = refl;
+  bytes = search needs;
+  number = search needs;
   in-file = λ before whole count.
       let n : numberAt 0 (length (wordsOf before)) ≡ c .args .first = omega (arith, length-words before) in (
         ap (numbered 0) (words-append before (c .args .block .now) whole)

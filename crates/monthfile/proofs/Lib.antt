@@ -1,0 +1,9 @@
+pub mod Allowed
+pub mod Backward
+pub mod Entire
+pub mod Factor
+pub mod Fitting
+pub mod Forward
+pub mod Held
+pub mod OneByOne
+pub mod Phases
