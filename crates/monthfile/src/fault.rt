@@ -2,6 +2,7 @@
 ghost use mathlib.Core.Path.{_≡_};
 ghost use Rattle.std.specs.Results.{Cases};
 ghost use Rattle.std.specs.declared.result.Result.the-variants.{Ok, Err};
+ghost use Rattle.monthfile.specs.Faults.{numberOf};
 ghost use Rattle.monthfile.specs.declared.fault.ReadFault.the-variants.{File, Plan, Memory};
 use plan::PlanFault;
 use std::alloc::AllocError;
@@ -16,6 +17,20 @@ pub enum FileFault {
     OutsideLimits,
     // the file ends too early
     CutShort,
+}
+
+impl FileFault {
+    // The number that the caller is told.
+    pub fn number(self) -> u8
+        ensures { λ r. ⌜ r ≡ numberOf self ⌝ }
+    {
+        match self {
+            FileFault::Malformed => 1,
+            FileFault::OutOfOrder => 2,
+            FileFault::OutsideLimits => 3,
+            FileFault::CutShort => 11,
+        }
+    }
 }
 
 // A fault with the number of the word, counted from 0, or after the end the count of whole words.

@@ -1,11 +1,13 @@
 -- A word that fits is read off its number, so no two such words have one number.
 use mathlib.Core.Path.{_≡_, refl, ap, sym, _∙_}
 use mathlib.Core.Bool.{cond}
+use mathlib.Core.Logic.{⊎-elim}
 use Prim.Native.Nat.{ℕ, _+_, _*_, _/_, _%_, _^_, _<_}
 use native.Mathlib.Omega.{arith}
 use lib.Dec.{eqb}
 use Rattle.std.specs.declared.option.Option.{Option}
 use Rattle.std.specs.declared.option.Option.the-variants.{Some, None}
+use Rattle.std.proofs.shelf.Tests.{cases-eq, cond-both}
 use Rattle.words.specs.declared.word.Word.{Word}
 use Rattle.words.specs.declared.word.Word.the-variants.{Period, Segment, Factor, Meter, Select, Amount, Carried}
 use Rattle.words.specs.Layout.{encoded, FieldsFit, Decoded}
@@ -72,3 +74,21 @@ encoded-injective word other fit also same =
 pub decoded-back : (n : ℕ) (r : Option Word) → Decoded n r → (word : Word) → FieldsFit word → encoded word ≡ n → r ≡ Some word
 decoded-back n None none word fit e = absurd (none word fit e)
 decoded-back n (Some found) has word fit e = ap Some (encoded-injective found word (has .0) fit (has .1 ∙ sym e))
+
+of-kind-fits : (n kind : ℕ) → FieldsFit (ofKind n kind)
+of-kind-fits n kind =
+    cond-both (eqb kind 1) _ _ FieldsFit (λ _. (omega arith, omega arith, omega arith)) (λ _.
+    cond-both (eqb kind 2) _ _ FieldsFit (λ _. (omega arith, omega arith, omega arith)) (λ _.
+    cond-both (eqb kind 3) _ _ FieldsFit (λ _. (omega arith, omega arith)) (λ _.
+    cond-both (eqb kind 4) _ _ FieldsFit (λ _. (omega arith, omega arith, omega arith, omega arith)) (λ _.
+    cond-both (eqb kind 5) _ _ FieldsFit (λ _. (omega arith, omega arith, omega arith)) (λ _.
+    cond-both (eqb kind 6) _ _ FieldsFit (λ _. omega arith) (λ _. (omega arith, omega arith)))))))
+
+-- every number is a word or none
+pub decodes : (n : ℕ) → (r : Option Word) × Decoded n r
+decodes n =
+    let found : Word = ofKind n (n / 2 ^ 28) in
+    ⊎-elim
+    (λ same. (Some found, (of-kind-fits n (n / 2 ^ 28), same)))
+    (λ other. (None, λ word fit e. other (ap encoded (read-back word fit n e) ∙ e)))
+    (cases-eq (encoded found) n)
