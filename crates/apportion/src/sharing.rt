@@ -12,8 +12,8 @@ pub fn share_out<R: CutRule>(
     total: u64,
     weights: &[u64],
 ) -> Result<[u64; MOST_WEIGHTS], CutFault>
-    ensures answer { told result ≡ refusal greatest total weights.now most_weights }
-    ensures shares { IfOk result (λ places. places ≡ shares rule.now total weights.now ++ replicate (most_weights - length weights.now) 0) }
+    ensures answer { told result ≡ refusal R.greatest total weights.now most_weights }
+    ensures shares { IfOk result (λ places. places ≡ R.shares rule.now total weights.now ++ replicate (most_weights - length weights.now) 0) }
     ensures handed_out { IfOk result (λ places. sum places ≡ total) }
 {
     let mut places = [0; MOST_WEIGHTS];

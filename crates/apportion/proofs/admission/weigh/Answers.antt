@@ -5,7 +5,7 @@ use Rattle.apportion.proofs.admission.weigh.Goals as goal
 
 pub loop-weight-preserved : goal.loop-weight-preserved
 loop-weight-preserved c =
-    omega (arith, c.saturating-add-whole.ensures, sum_by_more (λ x. x) c.args.weights.now c.loop-weight.weight-index 0 c.loop-weight-test.true)
+    omega (arith, c.saturating_add-whole.ensures, sum_by_more (λ x. x) c.args.weights.now c.loop-weight.weight-index 0 c.loop-weight-test.true)
 
 pub returns : goal.returns
 returns c = c.loop-weight.invariant ∙ ap (λ ws. min (sum ws) (2 ^ 64 - 1)) (take_all _ _ c.loop-weight-test.false)

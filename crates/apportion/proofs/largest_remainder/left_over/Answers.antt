@@ -11,8 +11,8 @@ portion-left-requires c = (c.requires.small, omega (arith, get_or-le-sum_by (λ 
 part_is : (c : goal.After-portion-left) → c.portion-left.result ≡ whole_part c.args.total c.args.weights.now c.loop-weight.weight-index
 part_is c = c.portion-left.ensures ∙ ap (λ w. c.args.total * get_or c.args.weights.now c.loop-weight.weight-index 0 / w) c.requires.weighed
 
-pub overflow-sub-left : goal.overflow-sub-left
-overflow-sub-left c = omega (arith, part_is c, next_whole_le c.args.total c.args.weights.now c.loop-weight.weight-index c.loop-weight-test.true)
+pub overflow_sub-left : goal.overflow_sub-left
+overflow_sub-left c = omega (arith, part_is c, next_whole_le c.args.total c.args.weights.now c.loop-weight.weight-index c.loop-weight-test.true)
 
 pub loop-weight-preserved : goal.loop-weight-preserved
 loop-weight-preserved c =

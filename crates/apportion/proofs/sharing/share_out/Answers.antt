@@ -11,7 +11,7 @@ returns g c =
     let weights = c.args.weights.now in
     let parts = g.R.CutRule.shares c.args.rule.now total weights in
     let none : refusal g.R.CutRule.greatest total weights most_weights ≡ None =
-    not_refused c.cut.result _ (refusal g.R.CutRule.greatest total weights most_weights) c.cut.ensures.answer c.in-ok-cut.was in
+    not_refused c.cut.result _ (refusal g.R.CutRule.greatest total weights most_weights) c.cut.ensures.answer c.in_ok-cut.was in
     let ok : Admitted g.R.CutRule.greatest total weights most_weights = admitted g.R.CutRule.greatest total weights most_weights none in
     let shared : Shared total weights parts = g.met.R.CutRule.fair c.args.rule.now total weights ok.small ok.few ok.light in
     let stands : c.cut.new.places ≡ parts ++ replicate (most_weights - length weights) 0 =

@@ -3,18 +3,18 @@ use Rattle.std.proofs.lemmas.List.{take_all}
 use Rattle.calculator.specs.Replies.{spaced}
 use Rattle.calculator.proofs.Words.{spaced_more, spaced_one}
 use Rattle.calculator.proofs.numbers.spaced_line.Goals as goal
-use Rattle.calculator.proofs.numbers.spaced_line.Goals.{then-i-gt0+in-ok-push-str, else-i-gt0}
+use Rattle.calculator.proofs.numbers.spaced_line.Goals.{then-i-gt0+in_ok-push_str, else-i-gt0}
 
 pub loop-i-preserved : goal.loop-i-preserved
 loop-i-preserved c =
     let numbers = c.args.numbers.now in
-    let written = c.as-str.ensures.value ∙ c.in-ok-to-string.ensures.ok in
-    let pushed : string_bytes c.push-str-in-loop-i.new.self ≡ string_bytes c.if-i-gt0.line ++ decimal (get_or numbers c.loop-i.i 0) =
-    c.in-ok-push-str-2.ensures.bytes ∙ ap (λ bs. string_bytes c.if-i-gt0.line ++ bs) written in
+    let written = c.as_str.ensures.value ∙ c.in_ok-to_string.ensures.ok in
+    let pushed : string_bytes c.push_str-in-loop-i.new.self ≡ string_bytes c.if-i-gt0.line ++ decimal (get_or numbers c.loop-i.i 0) =
+    c.in_ok-push_str-2.ensures.bytes ∙ ap (λ bs. string_bytes c.if-i-gt0.line ++ bs) written in
     elim c.if-i-gt0.branch [
-      | then-i-gt0+in-ok-push-str w ↦
+      | then-i-gt0+in_ok-push_str w ↦
           let blank : string_bytes c.if-i-gt0.line ≡ spaced (take c.loop-i.i numbers) ++ codes " " =
-          ap string_bytes w.line-is ∙ w.in-ok-push-str.ensures.bytes ∙ ap (λ bs. bs ++ codes " ") c.loop-i.invariant in
+          ap string_bytes w.line-is ∙ w.in_ok-push_str.ensures.bytes ∙ ap (λ bs. bs ++ codes " ") c.loop-i.invariant in
           pushed ∙ ap (λ bs. bs ++ decimal (get_or numbers c.loop-i.i 0)) blank
           ∙ append_assoc (spaced (take c.loop-i.i numbers)) (codes " ") (decimal (get_or numbers c.loop-i.i 0))
           ∙ sym (spaced_more numbers c.loop-i.i c.loop-i-test.true w.if-i-gt0.true)

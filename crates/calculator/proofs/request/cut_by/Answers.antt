@@ -7,7 +7,7 @@ use Rattle.calculator.proofs.request.cut_by.Goals as goal
 pub returns : goal.returns
 returns g c =
     let total = get_or c.args.numbers.now 0 0 in (
-      subst (λ weights. Says c.in-ok-reply.reply (refusal g.R.CutRule.greatest total weights most_weights) (g.R.CutRule.shares c.args.rule.now total weights))
-          (take_rest c.args.numbers.now 1) c.in-ok-reply.ensures,
+      subst (λ weights. Says c.in_ok-reply.reply (refusal g.R.CutRule.greatest total weights most_weights) (g.R.CutRule.shares c.args.rule.now total weights))
+          (take_rest c.args.numbers.now 1) c.in_ok-reply.ensures,
       omega arith,
     )

@@ -32,16 +32,16 @@ loop-place-preserved c =
     let bits = c.in-Some.bits in
     let text = string_bytes c.loop-place.text in
     let stood = standing_of c.loop-place.reader in
-    let longer = string_bytes c.dump-word.new.text in
-    let stands = standing_of c.dump-word.new.reader in
+    let longer = string_bytes c.dump_word.new.text in
+    let stands = standing_of c.dump_word.new.reader in
     let step = c.in-Some.ensures in
     let next = shown window.number left.number (words_of window.rest.now) others c.in-Some.place bits step.shows in
     one_more_shown before c.args.first all earlier small bits others window.number text longer stood stands
     (subst (λ ws. ShownSoFar before c.args.first all earlier ws window.number text stood) next.0 c.loop-place.invariant) left.number
-    (subst (λ n. BlockShown stood n (bits ∷ []) text (Ok tt) longer stands) next.1 c.in-ok-dump-word.ensures) step.counts
+    (subst (λ n. BlockShown stood n (bits ∷ []) text (Ok tt) longer stands) next.1 c.in_ok-dump_word.ensures) step.counts
 
-pub returns-in-err-dump-word : goal.returns-in-err-dump-word
-returns-in-err-dump-word c =
+pub returns-in_err-dump_word : goal.returns-in_err-dump_word
+returns-in_err-dump_word c =
     let small : c.args.first ≤ last_number = omega arith in
     let before = standing_of c.args.reader.now in
     let all = words_of c.args.block.now in
@@ -52,17 +52,17 @@ returns-in-err-dump-word c =
     let bits = c.in-Some.bits in
     let text = string_bytes c.loop-place.text in
     let stood = standing_of c.loop-place.reader in
-    let longer = string_bytes c.dump-word.new.text in
-    let stands = standing_of c.dump-word.new.reader in
+    let longer = string_bytes c.dump_word.new.text in
+    let stands = standing_of c.dump_word.new.reader in
     let next = shown window.number left.number (words_of window.rest.now) others c.in-Some.place bits c.in-Some.ensures.shows in
-    let fault = c.in-err-dump-word.field-0.0 in
-    let p = err_from_is_err_and c.from-residual.result c.from-residual.ensures.1 in
+    let fault = c.in_err-dump_word.field-0.0 in
+    let p = err_from_is_err_and c.from_residual.result c.from_residual.ensures.1 in
     record {
       shown =
           subst (λ r. BlockShown before c.args.first all earlier r longer stands) (sym (p.1 ∙ ap Err p.2))
           (stopped_shown before c.args.first all earlier small bits others window.number text longer stood stands
           (subst (λ ws. ShownSoFar before c.args.first all earlier ws window.number text stood) next.0 c.loop-place.invariant) fault
-          (subst (λ n. BlockShown stood n (bits ∷ []) text (Err fault) longer stands) next.1 c.in-err-dump-word.ensures));
+          (subst (λ n. BlockShown stood n (bits ∷ []) text (Err fault) longer stands) next.1 c.in_err-dump_word.ensures));
       blocks = records_block_by_block;
       order = records_of_file;
     }
@@ -75,7 +75,7 @@ returns c =
       shown =
           all_shown (standing_of c.args.reader.now) c.args.first (words_of c.args.block.now) (string_bytes c.args.text.now) small window.number
           (words_of window.rest.now) (string_bytes c.loop-place.text) (standing_of c.loop-place.reader) c.loop-place.invariant
-          (none_left window.number (words_of window.rest.now) c.in-default.ensures.0);
+          (none_left window.number (words_of window.rest.now) c.in_default.ensures.0);
       blocks = records_block_by_block;
       order = records_of_file;
     }

@@ -11,7 +11,7 @@ loop-gap-preserved c =
     let gaps = c.args.gaps.now in
     let none : Gap = record { segment = 0; meter = 0; hours = 0 } in
     let line : List ℕ = gap_line (get_or gaps i none) ++ 10 ∷ [] in
-    let added : string_bytes c.writeln.new.self ≡ string_bytes c.loop-gap.text ++ line = c.in-ok-writeln.ensures.bytes in
+    let added : string_bytes c.writeln.new.self ≡ string_bytes c.loop-gap.text ++ line = c.in_ok-writeln.ensures.bytes in
     added ∙ ap (λ text. text ++ line) c.loop-gap.invariant
     ∙ flat_map_more (λ gap. gap_line gap ++ 10 ∷ []) [] (take i gaps) (get_or gaps i none)
     ∙ ap gap_text (sym (take_more gaps i none c.loop-gap-test.true))

@@ -11,49 +11,49 @@ use Rattle.loading.proofs.stages.read_plan.Goals as goal
 pub loop-place-init : goal.loop-place-init
 loop-place-init g c = plan_begun c.args.file.now (standing_of c.args.reader.now) c.requires
 
-pub returns-in-err-place : goal.returns-in-err-place
-returns-in-err-place g c =
-    let p = err_from_is_err_and c.from-residual.result c.from-residual.ensures.1 in
+pub returns-in_err-place : goal.returns-in_err-place
+returns-in_err-place g c =
+    let p = err_from_is_err_and c.from_residual.result c.from_residual.ensures.1 in
     rw p.1 (
     plan_failed c.args.file.now c.loop-place.file c.next.new.self (standing_of c.loop-place.reader) p.0
-    c.loop-place.invariant c.in-err-place.ensures (ap told p.2)
+    c.loop-place.invariant c.in_err-place.ensures (ap told p.2)
     )
 
-pub returns-in-err-step : goal.returns-in-err-step
-returns-in-err-step g c =
-    let p = err_from_is_err_and c.from-residual-in-err-step.result c.from-residual-in-err-step.ensures.1 in
-    let next = word_given Error c.loop-place.file c.next.new.self c.in-ok-place.field-0 c.in-ok-place.ensures (c.in-Some.place, c.in-Some.bits) c.in-Some.is in
+pub returns-in_err-step : goal.returns-in_err-step
+returns-in_err-step g c =
+    let p = err_from_is_err_and c.from_residual-in_err-step.result c.from_residual-in_err-step.ensures.1 in
+    let next = word_given Error c.loop-place.file c.next.new.self c.in_ok-place.field-0 c.in_ok-place.ensures (c.in-Some.place, c.in-Some.bits) c.in-Some.is in
     rw (p.1, p.2) (
     plan_refused c.args.file.now c.loop-place.file c.next.new.self (standing_of c.loop-place.reader) (standing_of c.step.new.self)
-    c.loop-place.invariant (c.in-Some.place, c.in-Some.bits) next c.in-err-step.field-0.0 c.in-err-step.ensures
+    c.loop-place.invariant (c.in-Some.place, c.in-Some.bits) next c.in_err-step.field-0.0 c.in_err-step.ensures
     )
 
 pub returns-in-Opening : goal.returns-in-Opening
 returns-in-Opening g c =
-    let next = word_given Error c.loop-place.file c.next.new.self c.in-ok-place.field-0 c.in-ok-place.ensures (c.in-Some.place, c.in-Some.bits) c.in-Some.is in
-    let stepped = c.in-ok-step.ensures in
+    let next = word_given Error c.loop-place.file c.next.new.self c.in_ok-place.field-0 c.in_ok-place.ensures (c.in-Some.place, c.in-Some.bits) c.in-Some.is in
+    let stepped = c.in_ok-step.ensures in
     select_read c.args.file.now c.loop-place.file c.next.new.self (standing_of c.loop-place.reader) (standing_of c.step.new.self)
     c.loop-place.invariant (c.in-Some.place, c.in-Some.bits) next
     (subst (λ b. Stepped (standing_of c.loop-place.reader) c.in-Some.place c.in-Some.bits (Ok b) (standing_of c.step.new.self)) c.in-Opening.is stepped)
 
 pub loop-place-preserved : goal.loop-place-preserved
 loop-place-preserved g c =
-    let next = word_given Error c.loop-place.file c.next.new.self c.in-ok-place.field-0 c.in-ok-place.ensures (c.in-Some.place, c.in-Some.bits) c.in-Some.is in
+    let next = word_given Error c.loop-place.file c.next.new.self c.in_ok-place.field-0 c.in_ok-place.ensures (c.in-Some.place, c.in-Some.bits) c.in-Some.is in
     plan_more c.args.file.now c.loop-place.file c.next.new.self (standing_of c.loop-place.reader) (standing_of c.step.new.self)
-    c.loop-place.invariant (c.in-Some.place, c.in-Some.bits) next c.in-ok-step.field-0 c.in-ok-step.ensures c.in-default-2.not-Opening
+    c.loop-place.invariant (c.in-Some.place, c.in-Some.bits) next c.in_ok-step.field-0 c.in_ok-step.ensures c.in_default-2.not-Opening
 
-pub returns-in-err-check-end : goal.returns-in-err-check-end
-returns-in-err-check-end g c =
-    let p = err_from_is_err_and c.from-residual-in-err-check-end.result c.from-residual-in-err-check-end.ensures.1 in
-    let ended = end_given Error c.loop-place.file c.next.new.self c.in-ok-place.field-0 c.in-ok-place.ensures c.in-default.is in
+pub returns-in_err-check_end : goal.returns-in_err-check_end
+returns-in_err-check_end g c =
+    let p = err_from_is_err_and c.from_residual-in_err-check_end.result c.from_residual-in_err-check_end.ensures.1 in
+    let ended = end_given Error c.loop-place.file c.next.new.self c.in_ok-place.field-0 c.in_ok-place.ensures c.in_default.is in
     rw (p.1, p.2) (
     plan_cut_short c.args.file.now c.loop-place.file c.next.new.self (standing_of c.loop-place.reader) (standing_of c.loop-place.reader)
-    c.loop-place.invariant ended c.in-err-check-end.field-0.0
-    (c.in-err-check-end.ensures ∙ end_asked (standing_of c.loop-place.reader) _ _ _ _ c.number.ensures c.left-over.ensures)
+    c.loop-place.invariant ended c.in_err-check_end.field-0.0
+    (c.in_err-check_end.ensures ∙ end_asked (standing_of c.loop-place.reader) _ _ _ _ c.number.ensures c.left_over.ensures)
     )
 
 pub returns : goal.returns
 returns g c =
-    let ended = end_given Error c.loop-place.file c.next.new.self c.in-ok-place.field-0 c.in-ok-place.ensures c.in-default.is in
+    let ended = end_given Error c.loop-place.file c.next.new.self c.in_ok-place.field-0 c.in_ok-place.ensures c.in_default.is in
     plan_ended c.args.file.now c.loop-place.file c.next.new.self (standing_of c.loop-place.reader) (standing_of c.loop-place.reader)
-    c.loop-place.invariant ended (sym (end_asked (standing_of c.loop-place.reader) _ _ _ _ c.number.ensures c.left-over.ensures) ∙ c.in-ok-check-end.ensures)
+    c.loop-place.invariant ended (sym (end_asked (standing_of c.loop-place.reader) _ _ _ _ c.number.ensures c.left_over.ensures) ∙ c.in_ok-check_end.ensures)

@@ -19,17 +19,17 @@ Refusal join held p = note_refusal p.meter p.amount (joined_with join held p.met
 pub loop-peak-init : goal.loop-peak-init
 loop-peak-init g c = (noted_none _ _ c.requires.opened, refl, refl)
 
-pub returns-in-err-carry-peak : goal.returns-in-err-carry-peak
-returns-in-err-carry-peak g c =
-    let r = err_from_is_err_and c.from-residual.result c.from-residual.ensures.1 in
-    let e = c.in-err-carry-peak.ensures in
+pub returns-in_err-carry_peak : goal.returns-in_err-carry_peak
+returns-in_err-carry_peak g c =
+    let r = err_from_is_err_and c.from_residual.result c.from_residual.ensures.1 in
+    let e = c.in_err-carry_peak.ensures in
     let inv = c.loop-peak.invariant in
     let held = book_contents g.S.WeightSource c.loop-peak.book in
     let peaks = c.args.peaks.now in
     let i = c.loop-peak.peak-index in
     let join = g.S.WeightSource.joining c.args.book.now.source in
     let d : CarriedPeak = record { meter = 0; amount = 0 } in
-    let number = number_of c.in-err-carry-peak.field-0.0 in
+    let number = number_of c.in_err-carry_peak.field-0.0 in
     let refusal : Refusal join held (get_or peaks i d) ≡ Some number =
     subst (λ (j : ℕ → ℕ → ℕ). Refusal j held (get_or peaks i d) ≡ Some number) inv.2 e.carried
     in
@@ -39,7 +39,7 @@ returns-in-err-carry-peak g c =
 
 pub loop-peak-preserved : goal.loop-peak-preserved
 loop-peak-preserved g c =
-    let e = c.in-ok-carry-peak.ensures in
+    let e = c.in_ok-carry_peak.ensures in
     let inv = c.loop-peak.invariant in
     let held = book_contents g.S.WeightSource c.loop-peak.book in
     let peaks = c.args.peaks.now in
@@ -47,8 +47,8 @@ loop-peak-preserved g c =
     let join = g.S.WeightSource.joining c.args.book.now.source in
     let d : CarriedPeak = record { meter = 0; amount = 0 } in
     let taken : Refusal join held (get_or peaks i d) ≡ None = subst (λ (j : ℕ → ℕ → ℕ). Refusal j held (get_or peaks i d) ≡ None) inv.2 e.carried.0 in
-    let after : book_contents g.S.WeightSource c.carry-peak.new.book ≡ with_peak join held (get_or peaks i d) =
-    subst (λ (j : ℕ → ℕ → ℕ). book_contents g.S.WeightSource c.carry-peak.new.book ≡ with_peak j held (get_or peaks i d)) inv.2 e.carried.1
+    let after : book_contents g.S.WeightSource c.carry_peak.new.book ≡ with_peak join held (get_or peaks i d) =
+    subst (λ (j : ℕ → ℕ → ℕ). book_contents g.S.WeightSource c.carry_peak.new.book ≡ with_peak j held (get_or peaks i d)) inv.2 e.carried.1
     in
     let sized = g.met.S.WeightSource.sized c.loop-peak.book.source in
     let before = book_contents g.S.WeightSource c.args.book.now in (

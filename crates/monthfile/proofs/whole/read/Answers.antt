@@ -13,34 +13,34 @@ use Rattle.monthfile.specs.Whole.{TellsFirst}
 use Rattle.monthfile.proofs.Entire.{file_and_reading, stopped_back, stopped_tells, ended_back, ended_tells, taken_back, taken_file, taken_fileable, taken_tells, from_start}
 use Rattle.monthfile.proofs.whole.read.Goals as goal
 
-pub returns-in-err-read-block : goal.returns-in-err-read-block
-returns-in-err-read-block c =
+pub returns-in_err-read_block : goal.returns-in_err-read_block
+returns-in_err-read_block c =
     let bytes = c.args.bytes.now in
-    let fault = c.in-err-read-block.field-0.0 in
-    let later = vec_items c.read-block.new.bookings in
-    let end = standing_of c.read-block.new.self in
-    let block = from_start bytes (standing_of c.new-reader.result) (vec_items c.new-bookings.result) (Err fault) later end c.new-reader.ensures c.new-bookings.ensures.items c.in-err-read-block.ensures.read in
-    let p = err_from_is_err_and c.from-residual.result c.from-residual.ensures.1 in
+    let fault = c.in_err-read_block.field-0.0 in
+    let later = vec_items c.read_block.new.bookings in
+    let end = standing_of c.read_block.new.self in
+    let block = from_start bytes (standing_of c.new-reader.result) (vec_items c.new-bookings.result) (Err fault) later end c.new-reader.ensures c.new-bookings.ensures.items c.in_err-read_block.ensures.read in
+    let p = err_from_is_err_and c.from_residual.result c.from_residual.ensures.1 in
     let e = p.1 ∙ ap Err p.2 in
     record {
-      file = IfOk-from_err c.from-residual.result _ (ap is_err e);
+      file = IfOk-from_err c.from_residual.result _ (ap is_err e);
       back = λ q bs f is. subst (λ r. MatchResult r (λ given. (contents given.0 ≡ q) × (vec_items given.1 ≡ bs)) (λ x. told x ≡ None)) (sym e) (stopped_back bytes fault later end block q bs f is);
       fault = subst (λ r. TellsFirst bytes r) (sym e) (stopped_tells bytes fault later end block);
       inverse = file_and_reading;
     }
 
-pub returns-in-err-plan : goal.returns-in-err-plan
-returns-in-err-plan c =
+pub returns-in_err-plan : goal.returns-in_err-plan
+returns-in_err-plan c =
     let bytes = c.args.bytes.now in
-    let fault = c.in-err-plan.field-0.0 in
-    let later = vec_items c.read-block.new.bookings in
-    let end = standing_of c.read-block.new.self in
-    let block = from_start bytes (standing_of c.new-reader.result) (vec_items c.new-bookings.result) (Ok tt) later end c.new-reader.ensures c.new-bookings.ensures.items c.in-ok-read-block.ensures.read in
-    let p = err_from_is_err_and c.from-residual-in-err-plan.result c.from-residual-in-err-plan.ensures.1 in
+    let fault = c.in_err-plan.field-0.0 in
+    let later = vec_items c.read_block.new.bookings in
+    let end = standing_of c.read_block.new.self in
+    let block = from_start bytes (standing_of c.new-reader.result) (vec_items c.new-bookings.result) (Ok tt) later end c.new-reader.ensures c.new-bookings.ensures.items c.in_ok-read_block.ensures.read in
+    let p = err_from_is_err_and c.from_residual-in_err-plan.result c.from_residual-in_err-plan.ensures.1 in
     let e = p.1 ∙ ap Err p.2 in
-    let tells = c.in-err-plan.ensures in
+    let tells = c.in_err-plan.ensures in
     record {
-      file = IfOk-from_err c.from-residual-in-err-plan.result _ (ap is_err e);
+      file = IfOk-from_err c.from_residual-in_err-plan.result _ (ap is_err e);
       back = λ q bs f is. subst (λ r. MatchResult r (λ given. (contents given.0 ≡ q) × (vec_items given.1 ≡ bs)) (λ x. told x ≡ None)) (sym e) (ended_back bytes later end block fault tells q bs f is);
       fault = subst (λ r. TellsFirst bytes r) (sym e) (ended_tells bytes later end block fault tells);
       inverse = file_and_reading;
@@ -49,15 +49,15 @@ returns-in-err-plan c =
 pub returns : goal.returns
 returns c =
     let bytes = c.args.bytes.now in
-    let plan = c.in-ok-plan.plan in
-    let later = vec_items c.read-block.new.bookings in
-    let end = standing_of c.read-block.new.self in
-    let block = from_start bytes (standing_of c.new-reader.result) (vec_items c.new-bookings.result) (Ok tt) later end c.new-reader.ensures c.new-bookings.ensures.items c.in-ok-read-block.ensures.read in
-    let may = c.in-ok-plan.ensures in
-    let small : All (λ b. b < 2 ^ 8) bytes = All-from_get_or _ bytes 0 (λ k _. (c.type-inv.bytes k).fits) in
+    let plan = c.in_ok-plan.plan in
+    let later = vec_items c.read_block.new.bookings in
+    let end = standing_of c.read_block.new.self in
+    let block = from_start bytes (standing_of c.new-reader.result) (vec_items c.new-bookings.result) (Ok tt) later end c.new-reader.ensures c.new-bookings.ensures.items c.in_ok-read_block.ensures.read in
+    let may = c.in_ok-plan.ensures in
+    let small : All (λ b. b < 2 ^ 8) bytes = All-from_get_or _ bytes 0 (λ k _. (c.type_inv.bytes k).fits) in
     record {
       file = (taken_fileable bytes later end block (contents plan) may.1 may.0 plan.well_made, taken_file bytes later end block (contents plan) may.1 may.0 small);
       back = taken_back bytes later end block (contents plan) may.1 may.0;
-      fault = taken_tells bytes later end block (contents plan) may.1 may.0 (plan, c.read-block.new.bookings);
+      fault = taken_tells bytes later end block (contents plan) may.1 may.0 (plan, c.read_block.new.bookings);
       inverse = file_and_reading;
     }

@@ -5,7 +5,7 @@ use Rattle.monthfile.specs.File.{booking_words, comes_next, one_on, spot_of}
 use Rattle.monthwriter.specs.Placing.{next_after, words_of_booking}
 use Rattle.monthwriter.proofs.Booked.{blank, booking_parts, booking_size}
 use Rattle.monthwriter.proofs.bookings.count_words.Goals as goal
-use Rattle.monthwriter.proofs.bookings.count_words.Goals.{then-comes-next, else-comes-next}
+use Rattle.monthwriter.proofs.bookings.count_words.Goals.{then-comes_next, else-comes_next}
 
 pub loop-booking-preserved : goal.loop-booking-preserved
 loop-booking-preserved c =
@@ -13,13 +13,13 @@ loop-booking-preserved c =
     let i = c.loop-booking.booking-index in
     let next = next_after c.loop-booking.last in
     let b : Booking = get_or bs i blank in
-    let n = c.if-comes-next.words in
+    let n = c.if-comes_next.words in
     let parts = ap length (booking_parts next bs i blank c.loop-booking-test.true)
     ∙ length-append (words_of_booking next b) (booking_words (Some (one_on (spot_of b))) (drop (i + 1) bs)) in
     let size : (length (words_of_booking next b) ≡ n) × (n ≤ 2) =
-    elim c.if-comes-next.branch [
-      | then-comes-next w ↦ booking_size (comes_next next (spot_of b)) _ b n w.if-comes-next.ensures w.words-is
-      | else-comes-next w ↦ booking_size (comes_next next (spot_of b)) _ b n w.if-comes-next.ensures w.words-is
+    elim c.if-comes_next.branch [
+      | then-comes_next w ↦ booking_size (comes_next next (spot_of b)) _ b n w.if-comes_next.ensures w.words-is
+      | else-comes_next w ↦ booking_size (comes_next next (spot_of b)) _ b n w.if-comes_next.ensures w.words-is
     ] in
     (omega (arith, c.loop-booking.invariant.0, parts, size.0), omega (arith, c.loop-booking.invariant.1, size.1))
 

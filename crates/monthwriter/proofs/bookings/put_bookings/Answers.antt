@@ -6,8 +6,8 @@ use Rattle.monthwriter.proofs.Booked.{blank, booking_parts}
 use Rattle.monthwriter.proofs.Putting.{room_now, one_step, at_end}
 use Rattle.monthwriter.proofs.bookings.put_bookings.Goals as goal
 
-pub put-booking-at-requires : goal.put-booking-at-requires
-put-booking-at-requires c =
+pub put_booking-at-requires : goal.put_booking-at-requires
+put_booking-at-requires c =
     let bs = c.args.bookings.now in
     let i = c.loop-booking.booking-index in
     let next = next_after c.loop-booking.last in
@@ -18,7 +18,7 @@ pub loop-booking-preserved : goal.loop-booking-preserved
 loop-booking-preserved c =
     one_step c.loop-booking.invariant
     (booking_parts (next_after c.loop-booking.last) c.args.bookings.now c.loop-booking.booking-index blank c.loop-booking-test.true)
-    c.put-booking-at.ensures
+    c.put_booking-at.ensures
 
 pub returns : goal.returns
 returns c =

@@ -12,13 +12,13 @@ held_from : (bs : List Booking) (i : ℕ) (told : Bool) → i < length bs → to
 held_from bs i told within is rest =
     ap (λ t. t && list_all is_held (drop (i + 1) bs)) is ∙ sym (at_drop_more (list_all is_held) bs i blank within) ∙ rest
 
-pub returns-then-not-is-held : goal.returns-then-not-is-held
-returns-then-not-is-held c =
-    held_from c.args.bookings.now c.loop-booking.booking-index _ c.loop-booking-test.true c.if-not-is-held.ensures c.loop-booking.invariant
+pub returns-then-not-is_held : goal.returns-then-not-is_held
+returns-then-not-is_held c =
+    held_from c.args.bookings.now c.loop-booking.booking-index _ c.loop-booking-test.true c.if-not-is_held.ensures c.loop-booking.invariant
 
 pub loop-booking-preserved : goal.loop-booking-preserved
 loop-booking-preserved c =
-    held_from c.args.bookings.now c.loop-booking.booking-index _ c.loop-booking-test.true c.if-not-is-held.ensures c.loop-booking.invariant
+    held_from c.args.bookings.now c.loop-booking.booking-index _ c.loop-booking-test.true c.if-not-is_held.ensures c.loop-booking.invariant
 
 pub returns : goal.returns
 returns c =

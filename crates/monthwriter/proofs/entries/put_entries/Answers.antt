@@ -10,8 +10,8 @@ entry_parts : {X : Type 0} (in_file : X → Word) (xs : List X) (i : ℕ) (x : X
 entry_parts in_file xs i x w within is word =
     at_drop_more (map in_file) xs i x within ∙ ap (λ v. v ∷ map in_file (drop (i + 1) xs)) (ap in_file (sym is) ∙ sym word)
 
-pub put-word-at-requires : goal.put-word-at-requires
-put-word-at-requires g c =
+pub put_word-at-requires : goal.put_word-at-requires
+put_word-at-requires g c =
     let in_file = g.E.PlanEntry.in_file in
     let xs = c.args.entries.now in
     let i = c.loop-item.item-index in
@@ -22,7 +22,7 @@ pub loop-item-preserved : goal.loop-item-preserved
 loop-item-preserved g c =
     one_step c.loop-item.invariant
     (entry_parts g.E.PlanEntry.in_file c.args.entries.now c.loop-item.item-index c.item-item.result c.word.result c.loop-item-test.true c.item-item.is c.word.ensures)
-    c.put-word-at.ensures
+    c.put_word-at.ensures
 
 pub returns : goal.returns
 returns g c =

@@ -12,22 +12,22 @@ after_meters : (ms listed : List Meter) (ps : List CarriedPeak) {start : ℕ} {o
     → OnTheWay start (map meter_word ms ++ map peak_word ps) out at (map peak_word ps) middle
 after_meters ms listed ps e room put = one_step (at_start room) (ap (λ l. map meter_word l ++ map peak_word ps) (sym e)) put
 
-pub put-entries-at-requires : goal.put-entries-at-requires
-put-entries-at-requires c =
+pub put_entries-at-requires : goal.put_entries-at-requires
+put_entries-at-requires c =
     let plan = contents c.args.plan.now in
     room_now (map meter_word c.meters.result.now) (map peak_word plan.carried) (at_start c.requires)
     (ap (λ l. map meter_word l ++ map peak_word plan.carried) (sym c.meters.ensures.answer))
 
-pub put-entries-requires : goal.put-entries-requires
-put-entries-requires c =
+pub put_entries-requires : goal.put_entries-requires
+put_entries-requires c =
     let plan = contents c.args.plan.now in
-    let way = after_meters plan.meters c.meters.result.now plan.carried c.meters.ensures.answer c.requires c.put-entries-at.ensures in
-    subst (λ ps. RoomFor c.put-entries-at.result (map peak_word ps) c.put-entries-at.new.out) (sym c.carried.ensures.answer) way.room
+    let way = after_meters plan.meters c.meters.result.now plan.carried c.meters.ensures.answer c.requires c.put_entries-at.ensures in
+    subst (λ ps. RoomFor c.put_entries-at.result (map peak_word ps) c.put_entries-at.new.out) (sym c.carried.ensures.answer) way.room
 
 pub returns : goal.returns
 returns c =
     let plan = contents c.args.plan.now in
-    let way = after_meters plan.meters c.meters.result.now plan.carried c.meters.ensures.answer c.requires c.put-entries-at.ensures in
-    way.goes c.put-entries.result c.put-entries.new.out
-    (subst (λ ps. WordsPut c.put-entries-at.result (map peak_word ps) c.put-entries-at.new.out c.put-entries.result c.put-entries.new.out)
-    c.carried.ensures.answer c.put-entries.ensures)
+    let way = after_meters plan.meters c.meters.result.now plan.carried c.meters.ensures.answer c.requires c.put_entries-at.ensures in
+    way.goes c.put_entries.result c.put_entries.new.out
+    (subst (λ ps. WordsPut c.put_entries-at.result (map peak_word ps) c.put_entries-at.new.out c.put_entries.result c.put_entries.new.out)
+    c.carried.ensures.answer c.put_entries.ensures)

@@ -13,5 +13,5 @@ returns c =
     ≡ Segment (record { segment = segment; service = service_number terms.service; tariff = terms.tariff }) = cc in
     let second : Factor segment c.factor.result ≡ Factor segment terms.factor = cc in
     put_then c.requires
-    (subst (λ w. WordsPut c.args.at (w ∷ []) c.args.out.now c.put-word-at.result c.put-word-at.new.out) first c.put-word-at.ensures)
-    (subst (λ w. WordsPut c.put-word-at.result (w ∷ []) c.put-word-at.new.out c.put-word.result c.put-word.new.out) second c.put-word.ensures)
+    (subst (λ w. WordsPut c.args.at (w ∷ []) c.args.out.now c.put_word-at.result c.put_word-at.new.out) first c.put_word-at.ensures)
+    (subst (λ w. WordsPut c.put_word-at.result (w ∷ []) c.put_word-at.new.out c.put_word.result c.put_word.new.out) second c.put_word.ensures)

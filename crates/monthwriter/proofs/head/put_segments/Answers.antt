@@ -19,8 +19,8 @@ unwrap-terms-requires c =
     some_behind segment_numbers c.terms.result (terms_of plan i) c.terms.ensures
     ((complete plan c.args.plan.now.well_made c.requires.full).1 i c.loop-segment-test.true)
 
-pub put-segment-at-requires : goal.put-segment-at-requires
-put-segment-at-requires c =
+pub put_segment-at-requires : goal.put_segment-at-requires
+put_segment-at-requires c =
     let plan = contents c.args.plan.now in
     let i = c.loop-segment.segment in
     let t = c.unwrap-terms.result in
@@ -31,7 +31,7 @@ pub loop-segment-preserved : goal.loop-segment-preserved
 loop-segment-preserved c =
     one_step c.loop-segment.invariant
     (segment_parts (contents c.args.plan.now) c.loop-segment.segment c.terms.result c.unwrap-terms.result c.requires.full c.loop-segment-test.true c.terms.ensures c.unwrap-terms.ensures)
-    c.put-segment-at.ensures
+    c.put_segment-at.ensures
 
 pub returns : goal.returns
 returns c =

@@ -14,7 +14,7 @@ returns c =
       place = omega arith;
       memory =
           let bits : c.unwrap-bits.result ≡ encoded c.args.word = grind arith in
-          let bytes : c.copy-from-slice.new.self ≡ spelled (encoded c.args.word) = c.copy-from-slice.ensures.after ∙ c.to-be-bytes.ensures ∙ ap spelled bits in
+          let bytes : c.copy_from_slice.new.self ≡ spelled (encoded c.args.word) = c.copy_from_slice.ensures.after ∙ c.to_be_bytes.ensures ∙ ap spelled bits in
           let rest : drop (at + 4 - at) (drop at out) ≡ drop (at + 4) out = drop-drop (at + 4 - at) at out ∙ ap (λ k. drop k out) (omega arith) in
           ap (λ bs. take at out ++ (bs ++ drop (at + 4 - at) (drop at out))) bytes
           ∙ ap (λ bs. take at out ++ (spelled (encoded c.args.word) ++ bs)) rest;

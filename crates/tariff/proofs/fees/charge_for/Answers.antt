@@ -6,5 +6,5 @@ pub returns : goal.returns
 returns c =
     record {
       value = cc;
-      bound = mul-le-mul (mul-le-mul c.requires c.tariff.ensures.bound) c.billed-days.ensures.bound.1;
+      bound = mul-le-mul (mul-le-mul c.requires c.tariff.ensures.bound) c.billed_days.ensures.bound.1;
     }

@@ -12,11 +12,11 @@ most :
     seasonal charge season ≤ seasonal greatest_charge greatest_season
 most charge season low dear = mul-le-mul (mul-le-mul_right part_year_multiplier low) dear
 
-pub overflow-mul-seasonal-2 : goal.overflow-mul-seasonal-2
-overflow-mul-seasonal-2 c = let m = most c.args.charge c.args.season c.requires.charge c.requires.season in search rules
+pub overflow_mul-seasonal-2 : goal.overflow_mul-seasonal-2
+overflow_mul-seasonal-2 c = let m = most c.args.charge c.args.season c.requires.charge c.requires.season in search rules
 
-pub overflow-mul-result-in-PartMonth : goal.overflow-mul-result-in-PartMonth
-overflow-mul-result-in-PartMonth c =
+pub overflow_mul-result-in-PartMonth : goal.overflow_mul-result-in-PartMonth
+overflow_mul-result-in-PartMonth c =
     let m = most c.args.charge c.args.season c.requires.charge c.requires.season in search rules
 
 pub returns-in-FullYear : goal.returns-in-FullYear

@@ -7,15 +7,15 @@ use Rattle.apportion.proofs.largest_remainder.LargestRemainderCutRule.cut.Goals 
 
 pub loop-i-preserved : goal.loop-i-preserved
 loop-i-preserved c =
-    let ok = admitted greatest_total c.args.total c.args.weights.now (length c.args.places.now) c.in-ok-whole.ensures.0 in
-    ap (λ ps. set ps c.loop-i.i c.share-at.result) c.loop-i.invariant
-    ∙ filled_more (share_by_remainder c.args.total c.args.weights.now) c.args.places.now c.loop-i.i _ (omega arith) c.share-at.ensures
+    let ok = admitted greatest_total c.args.total c.args.weights.now (length c.args.places.now) c.in_ok-whole.ensures.0 in
+    ap (λ ps. set ps c.loop-i.i c.share_at.result) c.loop-i.invariant
+    ∙ filled_more (share_by_remainder c.args.total c.args.weights.now) c.args.places.now c.loop-i.i _ (omega arith) c.share_at.ensures
 
 pub returns : goal.returns
 returns c =
     record {
-      answer = sym c.in-ok-whole.ensures.0;
+      answer = sym c.in_ok-whole.ensures.0;
       places =
           filled_all (share_by_remainder c.args.total c.args.weights.now) (length c.args.weights.now) c.loop-i.i _ c.args.places.now _
-          c.loop-i.invariant (omega arith) c.in-ok-whole.ensures.0;
+          c.loop-i.invariant (omega arith) c.in_ok-whole.ensures.0;
     }

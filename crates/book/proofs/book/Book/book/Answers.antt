@@ -12,13 +12,13 @@ enter-requires g c =
     let sized : length marks ≡ meter_count = simp length-map (omega (arith, book.rows, book.tables.rows.ok.0)) in
     record {
       meter_is_within = omega (arith, book.rows);
-      hour-within = (omega arith, book.sums);
+      hour_within = (omega arith, book.sums);
       free = cc;
       fits = omega (arith, sum_bound marks (vec_items book.tables.sums) book.bounded sized c.args.hour);
     }
 
-pub invariant-of-self-2 : goal.invariant-of-self-2
-invariant-of-self-2 g c =
+pub invariant_of-self-2 : goal.invariant_of-self-2
+invariant_of-self-2 g c =
     let book = c.args.self.now in
     let marks = marks_of book.tables in
     let sums = vec_items book.tables.sums in

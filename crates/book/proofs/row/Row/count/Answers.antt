@@ -15,8 +15,8 @@ word_fits c = search rules
 few : (c : goal.After-from-count) → c.from-count.result ≤ word_hours
 few c = omega (arith, ones-le word_hours (get_or c.args.self.now.marks c.loop-word.word-index 0) (word_fits c))
 
-pub overflow-add-count : goal.overflow-add-count
-overflow-add-count c = omega (arith, few c)
+pub overflow_add-count : goal.overflow_add-count
+overflow_add-count c = omega (arith, few c)
 
 pub loop-word-preserved : goal.loop-word-preserved
 loop-word-preserved c =

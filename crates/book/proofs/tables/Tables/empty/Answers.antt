@@ -7,15 +7,15 @@ use Rattle.book.proofs.Lookup.{words_alike}
 use Rattle.book.proofs.Marking.{get_or-zeros, unmarked_past}
 use Rattle.book.proofs.tables.Tables.empty.Goals as goal
 
-pub returns-in-err-rows : goal.returns-in-err-rows
-returns-in-err-rows c =
-    let r = c.from-residual-in-err-rows in
+pub returns-in_err-rows : goal.returns-in_err-rows
+returns-in_err-rows c =
+    let r = c.from_residual-in_err-rows in
     record { rows = IfOk-from_err r.result _ r.ensures.0; sums = IfOk-from_err r.result _ r.ensures.0 }
 
 pub returns : goal.returns
 returns c =
-    let rows = c.in-ok-rows.ensures in
-    let sums = c.in-ok-sums.ensures in
+    let rows = c.in_ok-rows.ensures in
+    let sums = c.in_ok-sums.ensures in
     let row = c.empty.result in
     record {
       rows = (

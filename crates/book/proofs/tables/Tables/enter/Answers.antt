@@ -4,18 +4,18 @@ use Rattle.book.proofs.Lookup.{words_are_read, words_set}
 use Rattle.book.proofs.tables.Tables.enter.Goals as goal
 
 inside : (c : goal.After-row) → c.args.meter < length (vec_items c.args.self.now.rows)
-inside c = omega (arith, c.args.self.now.rows.ok.0, c.requires.meter-within)
+inside c = omega (arith, c.args.self.now.rows.ok.0, c.requires.meter_within)
 
 pub mark-requires : goal.mark-requires
 mark-requires c = record {
-  within = c.requires.hour-within.0;
+  within = c.requires.hour_within.0;
   free = rw (← words_are_read (vec_items c.args.self.now.rows) c.args.meter c.row.result.now (inside c) c.row.ensures.value) c.requires.free;
 }
 
-pub overflow-add-index-mut : goal.overflow-add-index-mut
-overflow-add-index-mut c =
+pub overflow_add-index_mut : goal.overflow_add-index_mut
+overflow_add-index_mut c =
     let sums = c.args.self.now.sums in
-    let read = get_or_read_under (vec_items sums) c.args.hour sums.len _ 0 c.index-mut.ensures.value (omega arith) sums.ok.0
+    let read = get_or_read_under (vec_items sums) c.args.hour sums.len _ 0 c.index_mut.ensures.value (omega arith) sums.ok.0
     in omega (arith, c.requires.fits)
 
 pub returns : goal.returns
@@ -25,10 +25,10 @@ returns c =
     let meter = c.args.meter in
     let hour = c.args.hour in
     let row = c.mark.new.self in
-    let within : meter < length rows = omega (arith, c.args.self.now.rows.ok.0, c.requires.meter-within) in
+    let within : meter < length rows = omega (arith, c.args.self.now.rows.ok.0, c.requires.meter_within) in
     let before = words_are_read rows meter c.row.result.now within c.row.ensures.value in
     let after = words_set rows meter row within in
-    let read = get_or_read_under (vec_items sums) hour sums.len _ 0 c.index-mut.ensures.value (omega arith) sums.ok.0
+    let read = get_or_read_under (vec_items sums) hour sums.len _ 0 c.index_mut.ensures.value (omega arith) sums.ok.0
     in record {
       row = map-set (λ r. r.marks) rows meter row ∙ ap (set (map (λ r. r.marks) rows) meter) (sym after);
       hours = λ h. rw (after, before) (c.mark.ensures.hours h);

@@ -7,7 +7,7 @@ pub returns-in-Some : goal.returns-in-Some
 returns-in-Some c =
     let found = words_found (vec_items c.args.self.now.rows) c.args.meter _ _ c.deref.ensures.value
     c.in-Some.ensures.lookup.3
-    in c.is-marked.ensures ∙ sym (ap (λ (words : List ℕ). is_marked words c.args.hour) found.1)
+    in c.is_marked.ensures ∙ sym (ap (λ (words : List ℕ). is_marked words c.args.hour) found.1)
 
 pub returns-in-None : goal.returns-in-None
 returns-in-None c =

@@ -13,7 +13,7 @@ loop-meter-preserved g c = λ terms bookings s.
     let i = c.loop-meter.meter-index in
     let meters = c.meters-meters.result.now in
     let none : Meter = record { segment = 0; number = 0; user = 0; station = 0 } in
-    c.in-ok-push.ensures.items
+    c.in_ok-push.ensures.items
     ∙ ap (λ gap. vec_items c.loop-meter.gaps ++ gap ∷ []) (c.gap.ensures terms bookings s)
     ∙ ap (λ gaps. gaps ++ gap_of terms bookings (get_or meters i none) ∷ []) (c.loop-meter.invariant terms bookings s)
     ∙ sym (map_more (gap_of terms bookings) meters i none c.loop-meter-test.true)

@@ -6,11 +6,11 @@ use Rattle.month.proofs.month.Month.missing.Goals as goal
 
 pub returns : goal.returns
 returns g c =
-    let admitted = c.in-ok-check-meter.ensures in
+    let admitted = c.in_ok-check_meter.ensures in
     record {
       answered = λ terms bookings s.
           answered terms bookings c.args.segment c.args.meter
           (state_of g.A.WeightSource g.B.WeightSource g.C.WeightSource g.D.WeightSource c.args.self.now) s
-          admitted c.hours.result _ c.hours.ensures.value c.in-ok-missing-in.ensures.1;
+          admitted c.hours.result _ c.hours.ensures.value c.in_ok-missing_in.ensures.1;
       refusal = admitted None;
     }

@@ -15,7 +15,7 @@ pub carry-requires : goal.carry-requires
 carry-requires g c =
     let plan = contents c.args.plan in
     let is = c.carried.ensures.answer in
-    let made = c.carried.ensures.well-made in
+    let made = c.carried.ensures.well_made in
     record {
       opened = c.requires.opened;
       fit = subst (λ (ps : List CarriedPeak). list_all peak_fits ps ≡ true) (sym is) (peaks_fit plan made);

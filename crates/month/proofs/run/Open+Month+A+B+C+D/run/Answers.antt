@@ -25,9 +25,9 @@ swaps_each g four segment =
     (g.met.A.WeightSource.swaps four.amr.source) (g.met.B.WeightSource.swaps four.s30.source)
     (g.met.C.WeightSource.swaps four.mrc.source) (g.met.D.WeightSource.swaps four.eav.source) segment
 
-pub returns-in-err-answers : goal.returns-in-err-answers
-returns-in-err-answers g c =
-    let r = err_from_is_err_and c.from-residual.result c.from-residual.ensures.1 in
+pub returns-in_err-answers : goal.returns-in_err-answers
+returns-in_err-answers g c =
+    let r = err_from_is_err_and c.from_residual.result c.from_residual.ensures.1 in
     rw r.1 (
     record {
       ran = tt;
@@ -40,7 +40,7 @@ pub loop-call-preserved : goal.loop-call-preserved
 loop-call-preserved g c =
     let inv = c.loop-call.invariant in
     let d : Call = Book (record { segment = 0; meter = 0; hour = 0; amount = 0 }) in
-    let items = c.push-reserved.ensures.items in (
+    let items = c.push_reserved.ensures.items in (
       λ terms bookings s.
           let next = next_call terms bookings c.args.calls.now c.loop-call.call-index d (vec_items c.loop-call.answers)
           c.answer.result
@@ -49,8 +49,8 @@ loop-call-preserved g c =
           c.loop-call-test.true (inv.0 terms bookings s) (c.answer.ensures terms)
           in
           (next.0, subst (λ (l : List Answer). AnswersEach terms bookings (take (c.loop-call.call-index + 1) c.args.calls.now) l) (sym items) next.1),
-      omega (arith, c.push-reserved.ensures.len, inv.1),
-      omega (arith, c.push-reserved.ensures.capacity, inv.2),
+      omega (arith, c.push_reserved.ensures.len, inv.1),
+      omega (arith, c.push_reserved.ensures.capacity, inv.2),
     )
 
 pub returns : goal.returns

@@ -7,36 +7,36 @@ use Rattle.monthfile.specs.View.{standing_of}
 use Rattle.monthfile.proofs.OneByOne.{nothing_read, faulty_read, taken_read, no_booking}
 use Rattle.monthfile.proofs.reader.Reader.read_word.Goals as goal
 
-pub returns-in-err-reserve : goal.returns-in-err-reserve
-returns-in-err-reserve c =
-    let p = err_from_is_err_and c.from-residual.result c.from-residual.ensures.1 in
+pub returns-in_err-reserve : goal.returns-in_err-reserve
+returns-in_err-reserve c =
+    let p = err_from_is_err_and c.from_residual.result c.from_residual.ensures.1 in
     let before = standing_of c.args.self.now in
     let bs = vec_items c.args.bookings.now in
     subst (λ r. BlockRead before c.args.place (c.args.bits ∷ []) bs r (vec_items c.reserve.new.self) before) (sym p.1)
     (subst (λ more. BlockRead before c.args.place (c.args.bits ∷ []) bs (Err p.0) more before) (sym c.reserve.ensures.items)
     (nothing_read before c.args.place (c.args.bits ∷ []) bs p.0 (ap told p.2)))
 
-pub returns-in-err-booking : goal.returns-in-err-booking
-returns-in-err-booking c =
-    let p = err_from_is_err_and c.from-residual-in-err-booking.result c.from-residual-in-err-booking.ensures.1 in
+pub returns-in_err-booking : goal.returns-in_err-booking
+returns-in_err-booking c =
+    let p = err_from_is_err_and c.from_residual-in_err-booking.result c.from_residual-in_err-booking.ensures.1 in
     let before = standing_of c.args.self.now in
     let after = standing_of c.step.new.self in
     let bs = vec_items c.args.bookings.now in
     subst (λ r. BlockRead before c.args.place (c.args.bits ∷ []) bs r (vec_items c.reserve.new.self) after) (sym p.1)
     (subst (λ more. BlockRead before c.args.place (c.args.bits ∷ []) bs (Err p.0) more after) (sym c.reserve.ensures.items)
     (faulty_read before c.args.place c.args.bits bs p.0 after
-    (subst (λ f. Stepped before c.args.place c.args.bits (Err f) after) (sym p.2) c.in-err-booking.ensures)))
+    (subst (λ f. Stepped before c.args.place c.args.bits (Err f) after) (sym p.2) c.in_err-booking.ensures)))
 
 pub returns-in-Offtake : goal.returns-in-Offtake
 returns-in-Offtake c =
-    taken_read (standing_of c.args.self.now) c.args.place c.args.bits (vec_items c.args.bookings.now) (vec_items c.push-reserved.new.self)
-    c.in-ok-booking.field-0 (standing_of c.step.new.self) c.in-ok-booking.ensures
-    (c.push-reserved.ensures.items ∙ ap (λ bs. bs ++ c.in-Offtake.booking ∷ []) c.reserve.ensures.items
+    taken_read (standing_of c.args.self.now) c.args.place c.args.bits (vec_items c.args.bookings.now) (vec_items c.push_reserved.new.self)
+    c.in_ok-booking.field-0 (standing_of c.step.new.self) c.in_ok-booking.ensures
+    (c.push_reserved.ensures.items ∙ ap (λ bs. bs ++ c.in-Offtake.booking ∷ []) c.reserve.ensures.items
     ∙ ap (λ b. vec_items c.args.bookings.now ++ booking_of b) (sym c.in-Offtake.is))
 
-pub returns-in-default : goal.returns-in-default
-returns-in-default c =
+pub returns-in_default : goal.returns-in_default
+returns-in_default c =
     taken_read (standing_of c.args.self.now) c.args.place c.args.bits (vec_items c.args.bookings.now) (vec_items c.reserve.new.self)
-    c.in-ok-booking.field-0 (standing_of c.step.new.self) c.in-ok-booking.ensures
+    c.in_ok-booking.field-0 (standing_of c.step.new.self) c.in_ok-booking.ensures
     (c.reserve.ensures.items ∙ sym (append-nil (vec_items c.args.bookings.now))
-    ∙ ap (λ bs. vec_items c.args.bookings.now ++ bs) (sym (no_booking c.in-ok-booking.field-0 c.in-default.not-Offtake)))
+    ∙ ap (λ bs. vec_items c.args.bookings.now ++ bs) (sym (no_booking c.in_ok-booking.field-0 c.in_default.not-Offtake)))

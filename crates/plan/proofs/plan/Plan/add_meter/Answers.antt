@@ -7,10 +7,10 @@ use Rattle.plan.specs.WellMade.{is_well_made}
 use Rattle.plan.proofs.Kept.{after_push, kept}
 use Rattle.plan.proofs.plan.Plan.add_meter.Goals as goal
 
-pub invariant-of-self : goal.invariant-of-self
-invariant-of-self c =
+pub invariant_of-self : goal.invariant_of-self
+invariant_of-self c =
     let before = c.args.self.now in
     let meter : Meter = record { segment = c.args.segment; number = c.args.number; user = c.args.user; station = c.args.station } in
     let P : List Meter → Type 0 = λ ms. is_well_made (view_of before.period (vec_items before.segments) ms (vec_items before.carried)) ≡ true in
-    let taken = kept (contents before) (AddMeter meter) before.well_made c.in-ok-check-meter.ensures in
+    let taken = kept (contents before) (AddMeter meter) before.well_made c.in_ok-check_meter.ensures in
     (after_push P (is_ok c.push.result) (vec_items before.meters) (vec_items c.push.new.self) meter c.push.ensures.items taken before.well_made, tt)

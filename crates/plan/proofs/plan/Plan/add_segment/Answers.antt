@@ -9,12 +9,12 @@ use Rattle.plan.specs.WellMade.{is_well_made}
 use Rattle.plan.proofs.Kept.{after_push, kept}
 use Rattle.plan.proofs.plan.Plan.add_segment.Goals as goal
 
-pub invariant-of-self : goal.invariant-of-self
-invariant-of-self c =
+pub invariant_of-self : goal.invariant_of-self
+invariant_of-self c =
     let before = c.args.self.now in
-    let terms = c.in-ok-terms.terms in
+    let terms = c.in_ok-terms.terms in
     let call = AddSegment c.args.segment (segment_numbers terms) in
-    let lawful : refusal_of (contents before) call ≡ None = rw c.in-ok-terms.ensures.terms c.in-ok-terms.ensures.answer in
+    let lawful : refusal_of (contents before) call ≡ None = rw c.in_ok-terms.ensures.terms c.in_ok-terms.ensures.answer in
     let P : List Terms → Type 0 = λ ts. is_well_made (view_of before.period ts (vec_items before.meters) (vec_items before.carried)) ≡ true in
     let taken : P (vec_items before.segments ++ terms ∷ []) = rw map_push (kept (contents before) call before.well_made lawful) in
     (after_push P (is_ok c.push.result) (vec_items before.segments) (vec_items c.push.new.self) terms c.push.ensures.items taken before.well_made, tt)
@@ -24,7 +24,7 @@ returns c =
     let before = contents c.args.self.now in
     let held = vec_items c.args.self.now.segments in
     let with-segments : List SegmentNumbers → Contents = λ ss. record { period = before.period; segments = ss; meters = before.meters; carried = before.carried } in
-    let now-held = ap (map segment_numbers) c.in-ok-push.ensures.items
-    ∙ map_push segment_numbers held c.in-ok-terms.terms
-    ∙ ap (λ s. map segment_numbers held ++ s ∷ []) c.in-ok-terms.ensures.terms in
-    record { answer = (c.in-ok-terms.ensures.answer, ap with-segments now-held); memory = λ e. grind arith }
+    let now-held = ap (map segment_numbers) c.in_ok-push.ensures.items
+    ∙ map_push segment_numbers held c.in_ok-terms.terms
+    ∙ ap (λ s. map segment_numbers held ++ s ∷ []) c.in_ok-terms.ensures.terms in
+    record { answer = (c.in_ok-terms.ensures.answer, ap with-segments now-held); memory = λ e. grind arith }

@@ -15,13 +15,13 @@ use Rattle.plan.proofs.plan.Plan.holder.Goals as goal
 abbrev blank : Meter
 blank = record { segment = 0; number = 0; user = 0; station = 0 }
 
-pub returns-then-is-meter : goal.returns-then-is-meter
-returns-then-is-meter c =
+pub returns-then-is_meter : goal.returns-then-is_meter
+returns-then-is_meter c =
     let xs = c.meters-meters.result.now in
     let i = c.loop-other.other-index in
     let test = is_meter c.args.segment c.args.meter in
     let value = c.meters-meters.ensures.answer in
-    let here : first_of test xs ≡ Some (get_or xs i blank) = first_here test xs i c.loop-other.invariant blank c.loop-other-test.true (sym c.if-is-meter.ensures) in
+    let here : first_of test xs ≡ Some (get_or xs i blank) = first_here test xs i c.loop-other.invariant blank c.loop-other-test.true (sym c.if-is_meter.ensures) in
     let plan = contents c.args.self.now in
     let fits = (standing plan c.args.self.now.well_made).meters_fit in
     let fit : meter_fits (get_or xs i blank) ≡ true = all_pass-get_or meter_fits xs i blank c.loop-other-test.true (rw value fits) in
@@ -35,7 +35,7 @@ returns-then-is-meter c =
 
 pub loop-other-preserved : goal.loop-other-preserved
 loop-other-preserved c =
-    first_later (is_meter c.args.segment c.args.meter) c.meters-meters.result.now c.loop-other.other-index c.loop-other.invariant blank c.loop-other-test.true (sym c.if-is-meter.ensures)
+    first_later (is_meter c.args.segment c.args.meter) c.meters-meters.result.now c.loop-other.other-index c.loop-other.invariant blank c.loop-other-test.true (sym c.if-is_meter.ensures)
 
 pub returns : goal.returns
 returns c =

@@ -5,8 +5,8 @@ use Rattle.plan.specs.View.{period_numbers}
 use Rattle.plan.proofs.Kept.{kept}
 use Rattle.plan.proofs.plan.Plan.set_period.Goals as goal
 
-pub invariant-of-self : goal.invariant-of-self
-invariant-of-self c =
+pub invariant_of-self : goal.invariant_of-self
+invariant_of-self c =
     let plan = contents c.args.self.now in
     let call = SetPeriod (period_numbers c.in-Some.period) in
     let taken : refusal_of plan call ≡ None = search rules in

@@ -5,12 +5,12 @@ use Rattle.tariff.specs.declared.service.Service.TheVariants.{FullYear, PartYear
 use Rattle.tariff.proofs.Alike.{alike}
 use Rattle.tariff.proofs.terms.Terms.new.Goals as goal
 
-pub returns-in-default : goal.returns-in-default
-returns-in-default c =
+pub returns-in_default : goal.returns-in_default
+returns-in_default c =
     let n = c.args.service in
-    let a : n ≡ 0 → ⊥ = λ e. c.in-default.ensures FullYear (sym e) in
-    let b : n ≡ 1 → ⊥ = λ e. c.in-default.ensures PartYear (sym e) in
-    let d : n ≡ 2 → ⊥ = λ e. c.in-default.ensures PartMonth (sym e) in
+    let a : n ≡ 0 → ⊥ = λ e. c.in_default.ensures FullYear (sym e) in
+    let b : n ≡ 1 → ⊥ = λ e. c.in_default.ensures PartYear (sym e) in
+    let d : n ≡ 2 → ⊥ = λ e. c.in_default.ensures PartMonth (sym e) in
     record { answer = grind (arith, nat_tests); fields = tt; only = tt }
 
 pub returns : goal.returns

@@ -8,7 +8,7 @@ pub returns : goal.returns
 returns c = record {
   bytes = search rules;
   number = search rules;
-  in-file = λ before whole count.
+  in_file = λ before whole count.
       let n : number_at 0 (length (words_of before)) ≡ c.args.first = omega (arith, length-words before) in (
         ap (numbered 0) (words_append before c.args.block.now whole)
             ∙ numbered-append 0 (words_of before) (words_of c.args.block.now) (omega arith)

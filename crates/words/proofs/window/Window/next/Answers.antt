@@ -5,7 +5,7 @@ use Rattle.words.proofs.window.Window.next.Goals as goal
 
 pub returns : goal.returns
 returns c =
-    let split = c.in-ok-bytes.ensures.cases in
+    let split = c.in_ok-bytes.ensures.cases in
     let long : 4 ≤ length c.args.self.now.rest.now = omega arith in
     let front = ap (numbered c.args.self.now.number) (words_front c.args.self.now.rest.now long) in
     record {
