@@ -6,8 +6,8 @@ use crate::source::WeightSource;
 /// Notes the amounts for the meter, one after another, and answers how many of them were accepted; a refused one is
 /// passed over. The order in which accepted amounts come makes no difference to the weights.
 pub fn note_each<S: WeightSource>(source: &mut S, meter: u64, amounts: &[u64]) -> usize
-    ensures noted { NotedEach (joining source.old) (weights source.old) meter amounts.now result (weights source.new) }
-    ensures joining { joining source.new ≡ joining source.old }
+    ensures noted { NotedEach (S.joining source.old) (S.weights source.old) meter amounts.now result (S.weights source.new) }
+    ensures joining { S.joining source.new ≡ S.joining source.old }
 {
     let mut count = 0;
     for amount in amounts {
