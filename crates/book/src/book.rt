@@ -25,8 +25,8 @@ pub struct Book<S: WeightSource> {
 impl<S: WeightSource> Book<S> {
     /// Opens a book over the source, which is reset. Want of memory hands the source back, reset.
     pub fn open(heap: Global, mut source: S) -> Result<Book<S>, (AllocError, S)>
-        ensures opened { MatchResult result (λ book. Opened (contents_of book.tables (weights book.source))) (λ e. weights e.1 ≡ zero_weights) }
-        ensures joining { MatchResult result (λ book. joining book.source ≡ joining source) (λ e. joining e.1 ≡ joining source) }
+        ensures opened { MatchResult result (λ book. Opened (contents_of book.tables (S.weights book.source))) (λ e. S.weights e.1 ≡ zero_weights) }
+        ensures joining { MatchResult result (λ book. S.joining book.source ≡ S.joining source) (λ e. S.joining e.1 ≡ S.joining source) }
     {
         source.reset();
         match Tables::empty(heap) {
@@ -38,8 +38,8 @@ impl<S: WeightSource> Book<S> {
     /// Notes a meter's carried peak in the source. Refused as the source refuses it: with 3 for a meter above 63 or an
     /// amount above 20,000, then with 6 where the weight would pass 15,000,000.
     pub fn carry(&mut self, meter: u64, amount: u64) -> Result<(), BookFault>
-        ensures carried { Carried (joining self.old.source) (contents_of self.old.tables (weights self.old.source)) meter amount result (contents_of self.new.tables (weights self.new.source)) }
-        ensures joining { joining self.new.source ≡ joining self.old.source }
+        ensures carried { Carried (S.joining self.old.source) (contents_of self.old.tables (S.weights self.old.source)) meter amount result (contents_of self.new.tables (S.weights self.new.source)) }
+        ensures joining { S.joining self.new.source ≡ S.joining self.old.source }
     {
         Ok(self.source.note(meter, amount)?)
     }
@@ -47,8 +47,8 @@ impl<S: WeightSource> Book<S> {
     /// Books an amount of a meter in an hour. Refused with 3 for a meter above 63, an hour above 744 or an amount above
     /// 20,000, then with 5 for an hour that the meter already has, then with 6 where the weight would pass 15,000,000.
     pub fn book(&mut self, meter: u64, hour: u64, amount: u64) -> Result<(), BookFault>
-        ensures booked { Booked (joining self.old.source) (contents_of self.old.tables (weights self.old.source)) meter hour amount result (contents_of self.new.tables (weights self.new.source)) }
-        ensures joining { joining self.new.source ≡ joining self.old.source }
+        ensures booked { Booked (S.joining self.old.source) (contents_of self.old.tables (S.weights self.old.source)) meter hour amount result (contents_of self.new.tables (S.weights self.new.source)) }
+        ensures joining { S.joining self.new.source ≡ S.joining self.old.source }
     {
         if meter >= METERS as u64 || hour >= HOURS as u64 || amount > MAX_AMOUNT {
             return Err(BookFault::OutOfRange);
@@ -64,8 +64,8 @@ impl<S: WeightSource> Book<S> {
     /// How many of a month's hours the meter still misses, counted from its marks: where it has no hour past the month,
     /// the hours below its end that it does not have. Refused with 3 for a meter above 63.
     pub fn missing(&self, meter: u64, hours: u64) -> Result<u64, BookFault>
-        ensures answer { Answered (ask_refusal meter) (hours - count_at (contents_of self.now.tables (weights self.now.source)) meter) result }
-        ensures lacked { IfOk result (λ n. EndsBy (words_at (contents_of self.now.tables (weights self.now.source)) meter) hours → n ≡ lacked_below (contents_of self.now.tables (weights self.now.source)) meter hours) }
+        ensures answer { Answered (ask_refusal meter) (hours - count_at (contents_of self.now.tables (S.weights self.now.source)) meter) result }
+        ensures lacked { IfOk result (λ n. EndsBy (words_at (contents_of self.now.tables (S.weights self.now.source)) meter) hours → n ≡ lacked_below (contents_of self.now.tables (S.weights self.now.source)) meter hours) }
     {
         match self.tables.count(meter as usize) {
             Some(count) => Ok(hours.saturating_sub(count)),
@@ -75,14 +75,14 @@ impl<S: WeightSource> Book<S> {
 
     /// Whether the meter has the hour.
     pub fn is_marked(&self, meter: u64, hour: u64) -> bool
-        ensures { result ≡ marked_at (contents_of self.now.tables (weights self.now.source)) meter hour }
+        ensures { result ≡ marked_at (contents_of self.now.tables (S.weights self.now.source)) meter hour }
     {
         self.tables.is_marked(meter as usize, hour as usize)
     }
 
     /// The sum of the hour: zero for an hour above 744.
     pub fn sum(&self, hour: u64) -> u64
-        ensures value { result ≡ sum_at (contents_of self.now.tables (weights self.now.source)) hour }
+        ensures value { result ≡ sum_at (contents_of self.now.tables (S.weights self.now.source)) hour }
         ensures bound { result ≤ greatest_sum }
     {
         self.tables.sum(hour as usize)
@@ -90,7 +90,7 @@ impl<S: WeightSource> Book<S> {
 
     /// The meter's weight. Refused with 3 for a meter above 63.
     pub fn weight(&self, meter: u64) -> Result<u64, BookFault>
-        ensures { Answered (ask_refusal meter) (slice_index (weights self.now.source) meter) result }
+        ensures { Answered (ask_refusal meter) (slice_index (S.weights self.now.source) meter) result }
     {
         Ok(self.source.weight(meter)?)
     }

@@ -1,4 +1,4 @@
--- The parts of standing_is_well_made contents, one by one. Assumes nothing.
+-- The parts of well-made contents, one by one. Assumes nothing.
 use Rattle.std.proofs.Common.{◌≡◌, ◌≤◌, true, ◌&&◌, ◌||◌, leb, length}
 use Rattle.std.proofs.lemmas.Bool.{and_from, and_parts, le-leb, leb-true}
 use Rattle.std.specs.List.{list_all}

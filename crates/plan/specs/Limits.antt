@@ -17,7 +17,7 @@ most_users = 16
 abbrev pub most_stations : ℕ
 most_stations = 16
 
--- the greatest amount of one meter in one hour, in k_wh
+-- the greatest amount of one meter in one hour, in kWh
 abbrev pub greatest_amount : ℕ
 greatest_amount = 20000
 

@@ -4,6 +4,6 @@ pub struct Booking {
     pub segment: u32,
     pub meter: u32,
     pub hour: u32,
-    // In k_wh.
+    // In kWh.
     pub amount: u32,
 }

@@ -8,7 +8,7 @@ pub const MOST_USERS: u32 = 16;
 
 pub const MOST_STATIONS: u32 = 16;
 
-// The k_wh of one meter in one hour.
+// The kWh of one meter in one hour.
 pub const GREATEST_AMOUNT: u32 = 20_000;
 
 // The segment whose meters carry a peak over from earlier months.

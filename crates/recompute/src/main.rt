@@ -7,7 +7,7 @@ const USAGE: &str = "usage: recompute largest TOTAL WEIGHT..
        recompute running TOTAL WEIGHT..
        recompute total PEAK FACTOR
        recompute fee YEAR MONTH HOURS SERVICE TARIFF CAPACITY
-The first two print the shares of the total, one for each weight; then a segment's total in k_wh/h; then a fee in cents.
+The first two print the shares of the total, one for each weight; then a segment's total in kWh/h; then a fee in cents.
 A refusal prints REFUSED and its number. Numbers have at most 64 bits.";
 
 // Prints the reply, or the usage where there is none. A refusal and bad usage end with status 1.

@@ -8,7 +8,7 @@ use Rattle.tariff.specs.Faults.{refused_unless}
 abbrev pub thousandths : ℕ
 thousandths = 1000
 
--- the total in k_wh/h: peak × factor ÷ 1,000, rounded up
+-- the total in kWh/h: peak × factor ÷ 1,000, rounded up
 abbrev pub segment_total : ℕ → ℕ → ℕ
 segment_total peak factor = rounded_up (peak * factor) thousandths
 

@@ -12,7 +12,7 @@ use crate::service::Service;
 use crate::terms::Terms;
 use calendar::Period;
 
-// In k_wh/h.
+// In kWh/h.
 const GREATEST_CAPACITY: u64 = 2_560_000;
 
 // The season of each month from January, in hundredths.
@@ -69,7 +69,7 @@ fn exact_fee(service: Service, charge: u64, season: u64, year_days: u64) -> Quot
     }
 }
 
-// The fee of a capacity of so many k_wh/h under a segment's terms. Whether a period allows the service is judged where
+// The fee of a capacity of so many kWh/h under a segment's terms. Whether a period allows the service is judged where
 // the terms are made, and not again here.
 pub fn fee(period: &Period, terms: &Terms, capacity: u64) -> Result<u64, TariffFault>
     ensures answer { told result ≡ fee_refusal capacity }

@@ -16,7 +16,7 @@ pub(crate) const GREATEST_FACTOR: u32 = 2_000;
 #[derive(Clone, Copy)]
 pub struct Terms {
     service: Service,
-    // Thousandths of € per k_wh/h per year.
+    // Thousandths of € per kWh/h per year.
     tariff: u32,
     // Thousandths.
     factor: u32,

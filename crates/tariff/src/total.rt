@@ -7,12 +7,12 @@ ghost use Rattle.tariff.specs.Totals.{thousandths, segment_total, LeastNotBelow,
 use crate::fault::TariffFault;
 use crate::terms::GREATEST_FACTOR;
 
-// In k_wh/h.
+// In kWh/h.
 const GREATEST_PEAK: u64 = 1_280_000;
 
 const THOUSANDTHS: u64 = 1_000;
 
-// The capacity to be cut over the users of a segment with this peak, in k_wh/h.
+// The capacity to be cut over the users of a segment with this peak, in kWh/h.
 pub fn segment_total(peak: u64, factor: u32) -> Result<u64, TariffFault>
     ensures answer { told result ≡ total_refusal peak factor }
     ensures value { IfOk result (λ total. total ≡ segment_total peak factor) }

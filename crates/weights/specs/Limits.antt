@@ -5,7 +5,7 @@ use Rattle.std.specs.Prelude.{ℕ}
 abbrev pub meter_count : ℕ
 meter_count = 64
 
--- the greatest amount that may be noted: the k_wh of one meter in one hour
+-- the greatest amount that may be noted: the kWh of one meter in one hour
 abbrev pub greatest_amount : ℕ
 greatest_amount = 20000
 

@@ -1,7 +1,7 @@
 /// How many meters a segment has, numbered from 0.
 pub const METERS: usize = 64;
 
-/// The greatest amount, in k_wh, of one meter in one hour.
+/// The greatest amount, in kWh, of one meter in one hour.
 pub const MAX_AMOUNT: u64 = 20_000;
 
 /// The greatest weight that a meter may come to.

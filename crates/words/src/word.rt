@@ -7,7 +7,7 @@ pub enum Word {
         month: u32,
         hours: u32,
     },
-    // kind 2: a segment's service, and its tariff in thousandths of € per k_wh/h per year
+    // kind 2: a segment's service, and its tariff in thousandths of € per kWh/h per year
     Segment {
         segment: u32,
         service: u32,
@@ -31,7 +31,7 @@ pub enum Word {
         meter: u32,
         hour: u32,
     },
-    // kind 6: the offtake of an hour in k_wh
+    // kind 6: the offtake of an hour in kWh
     Amount {
         amount: u32,
     },

@@ -14,7 +14,7 @@ use calendar::Period;
 use std::alloc::Global;
 
 impl Plan {
-    // An empty plan. Which contents calls can make of it, and that these are the standing_is_well_made ones, is stated here once for all of them.
+    // An empty plan. Which contents calls can make of it, and that these are the well-made ones, is stated here once for all of them.
     pub fn new(heap: Global) -> Plan
         ensures empty { contents result ≡ nothing }
         ensures made { MadeByCalls }

@@ -11,7 +11,7 @@ enter-requires g c =
     let marks = marks_of book.tables in
     let sized : length marks ≡ meter_count = simp length-map (omega (arith, book.rows, book.tables.rows.ok.0)) in
     record {
-      meter_is_within = omega (arith, book.rows);
+      meter_within = omega (arith, book.rows);
       hour_within = (omega arith, book.sums);
       free = cc;
       fits = omega (arith, sum_bound marks (vec_items book.tables.sums) book.bounded sized c.args.hour);
@@ -28,7 +28,8 @@ invariant_of-self-2 g c =
     let words = get_or (marks_of c.enter.new.self) c.args.meter [] in
     let bounded = bounded_after marks sums book.bounded c.args.meter c.args.hour c.args.amount words inside
     (omega arith) (cc) entered.hours within
-    in (
-      omega (arith, entered.sized.0, book.rows),
-      (omega (arith, entered.sized.1, book.sums), (rw (entered.row, entered.sums) bounded, tt)),
-    )
+    in record {
+      rows = omega (arith, entered.sized.0, book.rows);
+      sums = omega (arith, entered.sized.1, book.sums);
+      bounded = rw (entered.row, entered.sums) bounded;
+    }

@@ -20,9 +20,9 @@ returns c =
     record {
       rows = (
         rows.len,
-        λ meter hour. rw (rows.items-if-clones-equal (λ y e. e))
+        λ meter hour. rw (rows.items_if_clones_equal (λ y e. e))
             (words_alike (λ words. is_marked words hour ≡ false) meter_count row (c.empty.ensures.hours hour) (unmarked_past [] hour zero-le) meter),
-        λ meter. rw (rows.items-if-clones-equal (λ y e. e)) (words_alike (λ words. ones_of words ≡ 0) meter_count row c.empty.ensures.ones refl meter),
+        λ meter. rw (rows.items_if_clones_equal (λ y e. e)) (words_alike (λ words. ones_of words ≡ 0) meter_count row c.empty.ensures.ones refl meter),
       );
-      sums = (sums.len, λ hour. rw (sums.items-if-clones-equal (λ y e. e)) (get_or-zeros hour_count hour));
+      sums = (sums.len, λ hour. rw (sums.items_if_clones_equal (λ y e. e)) (get_or-zeros hour_count hour));
     }

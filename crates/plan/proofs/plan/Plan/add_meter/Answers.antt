@@ -13,4 +13,4 @@ invariant_of-self c =
     let meter : Meter = record { segment = c.args.segment; number = c.args.number; user = c.args.user; station = c.args.station } in
     let P : List Meter → Type 0 = λ ms. is_well_made (view_of before.period (vec_items before.segments) ms (vec_items before.carried)) ≡ true in
     let taken = kept (contents before) (AddMeter meter) before.well_made c.in_ok-check_meter.ensures in
-    (after_push P (is_ok c.push.result) (vec_items before.meters) (vec_items c.push.new.self) meter c.push.ensures.items taken before.well_made, tt)
+    record { well_made = after_push P (is_ok c.push.result) (vec_items before.meters) (vec_items c.push.new.self) meter c.push.ensures.items taken before.well_made }

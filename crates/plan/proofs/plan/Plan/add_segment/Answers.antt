@@ -17,7 +17,7 @@ invariant_of-self c =
     let lawful : refusal_of (contents before) call ≡ None = rw c.in_ok-terms.ensures.terms c.in_ok-terms.ensures.answer in
     let P : List Terms → Type 0 = λ ts. is_well_made (view_of before.period ts (vec_items before.meters) (vec_items before.carried)) ≡ true in
     let taken : P (vec_items before.segments ++ terms ∷ []) = rw map_push (kept (contents before) call before.well_made lawful) in
-    (after_push P (is_ok c.push.result) (vec_items before.segments) (vec_items c.push.new.self) terms c.push.ensures.items taken before.well_made, tt)
+    record { well_made = after_push P (is_ok c.push.result) (vec_items before.segments) (vec_items c.push.new.self) terms c.push.ensures.items taken before.well_made }
 
 pub returns : goal.returns
 returns c =

@@ -7,7 +7,7 @@ use Rattle.plan.proofs.plan.Plan.new.Goals as goal
 pub invariant_of-result : goal.invariant_of-result
 invariant_of-result c =
     let empty : view_of None (vec_items c.new.result) (vec_items c.new-2.result) (vec_items c.new-3.result) ≡ nothing = simp (c.new.ensures.items, c.new-2.ensures.items, c.new-3.ensures.items) in
-    (rw empty nothing_well_made, tt)
+    record { well_made = rw empty nothing_well_made }
 
 pub returns : goal.returns
 returns c = record {

@@ -10,4 +10,4 @@ invariant_of-self c =
     let plan = contents c.args.self.now in
     let call = SetPeriod (period_numbers c.in-Some.period) in
     let taken : refusal_of plan call ≡ None = search rules in
-    (kept plan call c.args.self.now.well_made taken, tt)
+    record { well_made = kept plan call c.args.self.now.well_made taken }
