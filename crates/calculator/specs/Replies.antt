@@ -1,11 +1,11 @@
 -- What the calculator reads and what it writes. Assumes nothing.
 use Rattle.std.specs.Prelude.{◌≡◌, ℕ, ◌^◌, ◌<◌, List, [], ◌∷◌, ◌++◌, Some, None, string_bytes, codes, decimal, Option, String}
-use Rattle.std.specs.Str.Parse.{IsNumeral, without_leading_plus, «value»}
+use Rattle.std.specs.Str.Parse.{IsNumeral, without_leading_plus, digits_value}
 
 -- the word writes a number that 64 bits hold: decimal digits, with or without a plus sign in front
 pub record Writes (word : List ℕ) (n : ℕ) : Type 0 where
   pub digits : IsNumeral 10 (without_leading_plus word)
-  pub number : n ≡ «value» 10 (without_leading_plus word)
+  pub number : n ≡ digits_value 10 (without_leading_plus word)
   pub fits : n < 2 ^ 64
 
 -- the words write these numbers, one each

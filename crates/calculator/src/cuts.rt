@@ -16,7 +16,7 @@ pub(crate) fn reply_to_cut<R: CutRule>(
     total: u64,
     weights: &[u64],
 ) -> Result<Reply, AllocError>
-    ensures { IfOk result (λ reply. Says reply (refusal greatest total weights.now most_weights) (shares rule.now total weights.now)) }
+    ensures { IfOk result (λ reply. Says reply (refusal R.greatest total weights.now most_weights) (R.shares rule.now total weights.now)) }
 {
     match share_out(rule, total, weights) {
         Ok(places) => {

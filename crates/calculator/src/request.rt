@@ -12,7 +12,7 @@ use std::alloc::{AllocError, Global};
 
 // The reply to a request for a cut: a total and at least one weight.
 fn cut_by<R: CutRule>(heap: Global, rule: &R, numbers: &[u64]) -> Result<Option<Reply>, AllocError>
-    ensures { IfOk result (λ o. MatchOption o (length numbers.now < 2) (λ reply. Says reply (refusal greatest (slice_index numbers.now 0) (drop 1 numbers.now) most_weights) (shares rule.now (slice_index numbers.now 0) (drop 1 numbers.now)) × (1 < length numbers.now))) }
+    ensures { IfOk result (λ o. MatchOption o (length numbers.now < 2) (λ reply. Says reply (refusal R.greatest (slice_index numbers.now 0) (drop 1 numbers.now) most_weights) (R.shares rule.now (slice_index numbers.now 0) (drop 1 numbers.now)) × (1 < length numbers.now))) }
 {
     if numbers.len() < 2 {
         return Ok(None);

@@ -6,8 +6,8 @@ use Rattle.apportion.proofs.Admitted.{Admitted, admitted}
 use Rattle.calculator.specs.Replies.{spaced, reply_line}
 use Rattle.calculator.proofs.cuts.reply_to_cut.Goals as goal
 
-pub returns-in_ok-line : goal.returns-in_ok-line
-returns-in_ok-line g c =
+pub returns-in_ok-line-in-Ok : goal.returns-in_ok-line-in-Ok
+returns-in_ok-line-in-Ok g c =
     let total = c.args.total in
     let weights = c.args.weights.now in
     let parts = g.R.CutRule.shares c.args.rule.now total weights in
@@ -18,7 +18,7 @@ returns-in_ok-line g c =
     ap (take (length weights)) c.in-Ok.ensures.shares ∙ take_at parts (replicate (most_weights - length weights) 0) (length weights) shared.sized in
     record {
       line =
-          c.in_ok-line.ensures ∙ ap (λ n. spaced (take n c.in-Ok.places)) (sub-zero (length weights)) ∙ ap spaced front
+          c.in_ok-line-in-Ok.ensures ∙ ap (λ n. spaced (take n c.in-Ok.places)) (sub-zero (length weights)) ∙ ap spaced front
           ∙ ap (λ o. reply_line o parts) (sym none);
       refused = ap is_some (sym none);
     }
