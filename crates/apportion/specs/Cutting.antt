@@ -1,5 +1,5 @@
 -- A cut of a total by weights: what a cutting rule owes, when a cut is refused, and what a cut leaves. Assumes nothing.
-use Rattle.std.specs.Prelude.{◌≡◌, ℕ, ◌+◌, ◌*◌, ◌<◌, ◌≤◌, Bool, cond, ◌&&◌, List, ◌++◌, length, drop, replicate, Some, None, Ok, Err, sum, Option, Result, ◌==◌, nat_lt, slice_index}
+use Rattle.std.specs.Prelude.{◌≡◌, ℕ, ◌+◌, ◌*◌, ◌<◌, ◌≤◌, cond, ◌&&◌, List, ◌++◌, length, drop, replicate, Some, None, Ok, Err, sum, Option, Result, ◌==◌, nat_lt, slice_index}
 use Rattle.apportion.specs.declared.fault.CutFault.{CutFault}
 use Rattle.apportion.specs.declared.fault.CutFault.TheVariants.{ManyWeights, FewPlaces, HeavyWeights, LargeTotal, NoWeight}
 

@@ -1,11 +1,11 @@
 -- Largest remainder is fair: its shares add up to the total, and each is less than a unit off. Assumes nothing.
-use Rattle.std.specs.Prelude.{◌≡◌, ℕ, zero, suc, ◌+◌, ◌-◌, ◌*◌, ◌/◌, ◌%◌, ◌<◌, ◌≤◌, Bool, true, false, cond, ◌&&◌, ◌||◌, ◌⊎◌, List, length, sum, ◌==◌, ◌≢◌, nat_lt, slice_index, refl}
-use Rattle.std.proofs.Common.{sym, ap, ◌∙◌, inl, inr, ⊎_elim, mul_comm, mul-add, mul-one, mod-lt, zero-mul, zero-add, mul-zero, arith}
+use Rattle.std.specs.Prelude.{◌≡◌, ℕ, suc, ◌+◌, ◌*◌, ◌<◌, ◌≤◌, Bool, true, false, ◌&&◌, ◌||◌, List, length, sum, ◌==◌, ◌≢◌, nat_lt, slice_index}
+use Rattle.std.proofs.Common.{sym, ap, ◌∙◌, ⊎_elim, mul_comm, mul-add, mul-one, mod-lt, zero-mul, zero-add, mul-zero, arith}
 use Rattle.std.proofs.Math.Nat.{mul-sub, mul-div-le, mod_def, zero-div, div-zero, le_of_mul-le-mul_left}
 use Rattle.std.specs.List.{range_with_len}
 use Rattle.std.proofs.lemmas.List.FromFn.{length-map-range_with_len, get_or-map-range_with_len}
 use Rattle.std.proofs.lemmas.List.Sums.{sum-map}
-use Rattle.std.proofs.lemmas.Bool.{cases_Bool, cases_lt, lt-ltb, le-ltb, ltb-true}
+use Rattle.std.proofs.lemmas.Bool.{cases_lt, lt-ltb, le-ltb}
 use Rattle.std.proofs.lemmas.Bool.Decides.{nat_tests}
 use Rattle.apportion.specs.Cutting.{Shared}
 use Rattle.apportion.specs.LargestRemainder.{whole_part, remainder, left_over, precedes, ahead, share_by_remainder, largest_remainder}

@@ -1,5 +1,5 @@
 -- The running cut is fair: its steps add up to the total, and each is less than a unit off. Assumes nothing.
-use Rattle.std.specs.Prelude.{◌≡◌, ℕ, zero, suc, ◌+◌, ◌-◌, ◌*◌, ◌/◌, ◌%◌, ◌<◌, ◌≤◌, List, length, take, sum, slice_index, refl}
+use Rattle.std.specs.Prelude.{◌≡◌, ℕ, zero, suc, ◌+◌, ◌-◌, ◌*◌, ◌/◌, ◌<◌, ◌≤◌, List, length, take, sum, slice_index}
 use Rattle.std.proofs.Common.{sym, ap, ◌∙◌, ⊎_elim, mul-add, mul-zero, zero-mul, zero-add, mod-lt, mul-div_cancel, mul-le-mul_left, div-mul-le_self, add-one, arith}
 use Rattle.std.proofs.Math.Nat.{mul-sub, zero-div, div-add-mod, div-zero}
 use Rattle.std.specs.List.{range_with_len}

@@ -1,4 +1,6 @@
 // Cuts a total into whole shares by weights: the trait of cutting rules, two rules, and a cut by any rule.
+#![tactic(auto)]
+
 mod admission;
 mod fault;
 mod largest_remainder;

@@ -1,4 +1,5 @@
 //! A segment's book: which hours of each meter are booked, the sum of each hour, and a weight source of any kind.
+#![tactic(auto)]
 
 mod book;
 mod fault;

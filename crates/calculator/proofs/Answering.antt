@@ -9,7 +9,7 @@ use Rattle.apportion.specs.RunningCut.{running_cut}
 use Rattle.plan.specs.Contents.{PeriodNumbers}
 use Rattle.tariff.specs.Totals.{segment_total, total_refusal}
 use Rattle.calculator.specs.FeeRequests.{fee_number, fee_in_cents}
-use Rattle.calculator.specs.Replies.{Writes, WriteAll}
+use Rattle.calculator.specs.Replies.{WriteAll}
 use Rattle.calculator.specs.Requests.{Request, Largest, Running, Total, Fee, Named, Asks, Says, AnsweredBy}
 use Rattle.calculator.specs.declared.reply.Reply.{Reply}
 

@@ -1,8 +1,8 @@
 -- Numbers that 32 bits do not hold are outside the limits of period, service and tariff. Assumes nothing.
-use Rattle.std.proofs.Common.{◌≡◌, ℕ, ◌+◌, ◌-◌, ◌*◌, ◌^◌, ◌<◌, ◌≤◌, max, Bool, true, false, cond, not, ◌&&◌, ◌||◌, eqb, leb, is_some, Some, None, Option, sym, refl, ap, ◌∙◌, ⊎_elim, arith}
+use Rattle.std.proofs.Common.{◌≡◌, ℕ, ◌+◌, ◌-◌, ◌*◌, ◌<◌, ◌≤◌, max, Bool, true, false, cond, not, ◌&&◌, ◌||◌, eqb, leb, is_some, Some, Option, ap, ◌∙◌, ⊎_elim, arith}
 use Rattle.std.proofs.lemmas.Bool.{and_left, and_right, and_parts, cases_Bool, cases_lt, cond_both, leb-true, lt-leb}
 use Rattle.std.proofs.lemmas.Bool.Decides.{nat_tests}
-use Rattle.calendar.specs.Calendar.{between, days_of_month, hours_of_day, leap, march, october, most_hours, takes_period, whole_month}
+use Rattle.calendar.specs.Calendar.{days_of_month, hours_of_day, leap, march, october, most_hours, takes_period, whole_month}
 use Rattle.plan.specs.Calls.{SetPeriod, refusal_of, after_call}
 use Rattle.plan.specs.Contents.{PeriodNumbers, nothing}
 use Rattle.plan.specs.Faults.{first_fault}

@@ -1,8 +1,8 @@
 -- The fee that a request asks for, through the calls of a plan. Assumes nothing.
-use Rattle.std.specs.Prelude.{◌≡◌, ℕ, ◌*◌, Bool, cond, Some, None, Option, ◌==◌}
+use Rattle.std.specs.Prelude.{◌≡◌, ℕ, ◌*◌, cond, Some, None, Option, ◌==◌}
 use Rattle.calendar.specs.Calendar.{billed_days, days_of_year}
 use Rattle.plan.specs.Calls.{PlanCall, SetPeriod, AddSegment, refusal_of, after_call}
-use Rattle.plan.specs.Contents.{PeriodNumbers, SegmentNumbers, nothing}
+use Rattle.plan.specs.Contents.{PeriodNumbers, nothing}
 use Rattle.plan.specs.Faults.{number_of as number_of_plan}
 use Rattle.tariff.specs.Faults.{number_of as number_of_tariff}
 use Rattle.tariff.specs.Fees.{exact_fee, fee_refusal, nearest, season_of}

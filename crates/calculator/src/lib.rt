@@ -1,4 +1,6 @@
 // A shipper's calculator: what a request on the command line asks for, and the line that answers it.
+#![tactic(auto)]
+
 mod cuts;
 mod fees;
 mod lines;

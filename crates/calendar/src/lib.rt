@@ -1,4 +1,6 @@
 // The Gregorian calendar of gas months, and the period that is settled.
+#![tactic(auto)]
+
 mod period;
 mod rules;
 

@@ -1,4 +1,6 @@
 // The worked figures of the rules, proved of the definitions that the contracts cite.
+#![tactic(auto)]
+
 ghost use Rattle.std.specs.Prelude.{◌≡◌, length};
 ghost use Rattle.std.specs.List.{AllByRecursion as All};
 ghost use Rattle.figures.specs.Table.{Holds, table};

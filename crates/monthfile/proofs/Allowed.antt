@@ -1,6 +1,6 @@
 -- Which word may stand in which phase, case by case. Assumes nothing.
-use Rattle.std.proofs.Common.{◌≡◌, ℕ, Bool, true, false, not, ◌&&◌, eqb}
-use Rattle.std.proofs.lemmas.Bool.{false≢true, and_parts, not-true, eqb-true}
+use Rattle.std.proofs.Common.{◌≡◌, ℕ, Bool, true, false, not, eqb}
+use Rattle.std.proofs.lemmas.Bool.{false≢true, not-true, eqb-true}
 use Rattle.words.specs.declared.word.Word.{Word}
 use Rattle.words.specs.declared.word.Word.TheVariants.{Period, Segment, Factor, Meter, Select, Amount, Carried}
 use Rattle.monthfile.specs.declared.phase.Phase.{Phase}

@@ -1,11 +1,11 @@
 -- Words that are read with no fault are those of the file of what they gave. Assumes nothing.
-use Rattle.std.proofs.Common.{◌≡◌, ℕ, ◌+◌, ◌<◌, ◌≤◌, Bool, true, false, cond, not, ◌&&◌, eqb, leb, List, [], ◌∷◌, ◌++◌, map, length, is_some, Some, None, Option, sym, refl, ap, ◌∙◌, subst, ⊎_elim, append_assoc, arith}
+use Rattle.std.proofs.Common.{◌≡◌, ℕ, Bool, true, false, cond, leb, List, [], ◌∷◌, ◌++◌, map, Some, None, Option, sym, refl, ap, ◌∙◌, subst, append_assoc, arith}
 use Rattle.std.specs.List.{flat_map}
-use Rattle.std.proofs.lemmas.List.{append-nil, flat_map_more, length_push, map-append}
-use Rattle.std.proofs.lemmas.Bool.{false≢true, and_parts, and_left, cases_Bool, eqb-true, leb-true, le-leb, ne_eqb}
+use Rattle.std.proofs.lemmas.List.{append-nil, flat_map_more, map-append}
+use Rattle.std.proofs.lemmas.Bool.{false≢true}
 use Rattle.std.proofs.lemmas.Bool.Decides.{nat_tests}
-use Rattle.plan.specs.Calls.{PlanCall, SetPeriod, AddSegment, AddMeter, AddCarried, refusal_of, after_call, is_empty}
-use Rattle.plan.specs.Contents.{Contents, PeriodNumbers, nothing}
+use Rattle.plan.specs.Calls.{PlanCall, SetPeriod, AddSegment, AddMeter, AddCarried, refusal_of, after_call}
+use Rattle.plan.specs.Contents.{Contents}
 use Rattle.plan.specs.Questions.{is_full}
 use Rattle.plan.specs.WellMade.{calls_of}
 use Rattle.plan.specs.declared.booking.Booking.{Booking}
@@ -13,16 +13,14 @@ use Rattle.words.specs.Bytes.{number_at}
 use Rattle.words.specs.declared.word.Word.{Word}
 use Rattle.words.specs.declared.word.Word.TheVariants.{Period, Segment, Factor, Meter, Select, Amount, Carried}
 use Rattle.monthfile.specs.declared.brought.Brought.{Brought}
-use Rattle.monthfile.specs.declared.brought.Brought.TheVariants.{Nothing, Opening, Offtake}
 use Rattle.monthfile.specs.declared.phase.Phase.{Phase}
 use Rattle.monthfile.specs.declared.phase.Phase.TheVariants.{Start, Segments, Terms, Meters, Peaks, Selected, Booked}
-use Rattle.monthfile.specs.Faults.{Told}
 use Rattle.monthfile.specs.File.{call_words, plan_words, Spot, spot_of, one_on, is_same_spot, comes_next, select_words, booking_words, file_words}
 use Rattle.monthfile.specs.Inverse.{Gave}
 use Rattle.monthfile.specs.Judging.{last_hour, may_stand, within_limits, redundant, call_of, plan_refusal, plan_after, phase_after, brought_by, by_plan, Standing, beginning, Layer, FILE, Verdict, Faulty, Taken, judge}
 use Rattle.monthfile.specs.Reading.{Reading, reading, gone_on, booking_of, may_end}
 use Rattle.monthfile.proofs.Allowed.{Allowed, allowed, period, segment, factor, meter, first_peak, next_peak, select_after_meters, select_after_peaks, select_anew, selected_amount, next_amount}
-use Rattle.monthfile.proofs.Phases.{phase_for, for_period, Tidy, tidy_nothing, in_order, turn, not_yet_full, calls_push, tidy_kept, after_period, after_segment, after_meter, after_peak}
+use Rattle.monthfile.proofs.Phases.{phase_for, Tidy, tidy_nothing, calls_push, tidy_kept, after_period, after_segment, after_meter, after_peak}
 
 faulty≢taken : {l : Layer} {n : ℕ} {s : Standing} {b : Brought} → Faulty l n ≡ Taken s b → ⊥
 faulty≢taken e = let z : ◌≡◌ {A = ℕ} 0 1 = cc in omega arith

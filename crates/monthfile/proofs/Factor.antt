@@ -1,19 +1,17 @@
 -- The judging of a factor, from the plan's answer to its segment. Assumes nothing.
-use Rattle.std.proofs.Common.{◌≡◌, ℕ, Bool, true, cond, not, eqb, Some, None, Ok, Err, Option, Result, sym, refl, ap, ◌∙◌, arith}
+use Rattle.std.proofs.Common.{◌≡◌, ℕ, true, cond, not, eqb, Some, None, Ok, Err, Option, Result, sym, refl, ap, ◌∙◌, arith}
 use Rattle.std.specs.Option.{option_map}
 use Rattle.std.proofs.lemmas.Bool.Decides.{nat_tests}
 use Rattle.plan.specs.Calls.{PlanCall, AddSegment, refusal_of, after_call}
 use Rattle.plan.specs.Contents.{Contents}
 use Rattle.plan.specs.Questions.{is_full}
-use Rattle.words.specs.declared.word.Word.{Word}
 use Rattle.words.specs.declared.word.Word.TheVariants.{Factor}
 use Rattle.monthfile.specs.declared.brought.Brought.{Brought}
 use Rattle.monthfile.specs.declared.brought.Brought.TheVariants.{Nothing}
 use Rattle.monthfile.specs.declared.fault.ReadFault.{ReadFault}
-use Rattle.monthfile.specs.declared.phase.Phase.{Phase}
 use Rattle.monthfile.specs.declared.phase.Phase.TheVariants.{Segments, Terms, Meters}
-use Rattle.monthfile.specs.Faults.{Told, told, blamed, Judged, JudgedByPlan}
-use Rattle.monthfile.specs.Judging.{FILE, PLAN, Standing, Verdict, Faulty, Taken, by_plan, judge}
+use Rattle.monthfile.specs.Faults.{blamed, Judged, JudgedByPlan}
+use Rattle.monthfile.specs.Judging.{FILE, PLAN, Standing, Faulty, Taken, by_plan, judge}
 
 blamed_by_plan : (o : Option ℕ) (place : ℕ) (after : Standing)
     → option_map (λ number. record { layer = PLAN; number = number; place = place }) o ≡ blamed place (by_plan o after Nothing)

@@ -1,5 +1,5 @@
 -- Every word of a file fits its bits. Assumes nothing.
-use Rattle.std.proofs.Common.{◌≡◌, ℕ, ◌+◌, ◌-◌, ◌*◌, ◌^◌, ◌<◌, ◌≤◌, Bool, true, false, cond, not, ◌&&◌, ◌||◌, eqb, ltb, leb, List, [], ◌∷◌, ◌++◌, length, is_some, Some, None, Option, arith}
+use Rattle.std.proofs.Common.{◌≡◌, ℕ, ◌+◌, ◌-◌, ◌*◌, ◌^◌, ◌<◌, ◌≤◌, Bool, true, false, cond, not, ◌&&◌, ◌||◌, eqb, ltb, leb, List, [], ◌∷◌, length, is_some, Some, None, Option, arith}
 use Rattle.std.specs.List.{flat_map, AllByRecursion as All}
 use Rattle.std.proofs.ByRecursion.{All-append}
 use Rattle.std.proofs.lemmas.Bool.{false≢true, and_parts, cond_both, leb-true, ltb-true}
@@ -13,14 +13,13 @@ use Rattle.plan.specs.Contents.{Contents, PeriodNumbers, SegmentNumbers, nothing
 use Rattle.plan.specs.Limits.{most_segments}
 use Rattle.plan.specs.WellMade.{Makes, calls_of}
 use Rattle.plan.specs.declared.booking.Booking.{Booking}
-use Rattle.plan.proofs.Judged.{Passed, passed}
+use Rattle.plan.proofs.Judged.{passed}
 use Rattle.plan.proofs.Within.{meter_is_within, peak_within}
 use Rattle.words.specs.Layout.{encoded, FieldsFit}
 use Rattle.words.specs.declared.word.Word.{Word}
 use Rattle.words.specs.declared.word.Word.TheVariants.{Period, Segment, Factor, Meter, Select, Amount, Carried}
 use Rattle.monthfile.specs.File.{Spot, spot_of, one_on, comes_next, call_words, plan_words, select_words, booking_words, file_words}
 use Rattle.monthfile.specs.Inverse.{Holdable}
-use Rattle.monthfile.specs.Judging.{last_hour}
 
 -- a word that fits its bits is a number of 32 bits
 pub encoded-below : (word : Word) → FieldsFit word → encoded word < 2 ^ 32

@@ -1,7 +1,7 @@
 -- Reading the words of a file gives its plan and its bookings back. Assumes nothing.
-use Rattle.std.proofs.Common.{◌≡◌, ℕ, ◌+◌, ◌<◌, ◌≤◌, Bool, true, false, cond, not, ◌&&◌, ◌||◌, eqb, leb, List, [], ◌∷◌, ◌++◌, map, is_some, Some, None, Option, sym, refl, ap, ◌∙◌, subst, ⊎_elim, append_assoc, arith}
+use Rattle.std.proofs.Common.{◌≡◌, ℕ, ◌+◌, Bool, true, false, cond, not, ◌&&◌, eqb, leb, List, [], ◌∷◌, ◌++◌, map, Some, None, Option, sym, refl, ap, ◌∙◌, subst, ⊎_elim, append_assoc, arith}
 use Rattle.std.specs.List.{flat_map, AllByRecursion as All}
-use Rattle.std.proofs.lemmas.List.{append-nil, map-append}
+use Rattle.std.proofs.lemmas.List.{map-append}
 use Rattle.std.proofs.lemmas.Bool.{false≢true, and_parts, cases_Bool, eqb-true, le-leb}
 use Rattle.std.proofs.lemmas.Bool.Decides.{nat_tests}
 use Rattle.plan.specs.Calls.{PlanCall, SetPeriod, AddSegment, AddMeter, AddCarried, refusal_of, after_call, is_empty}
@@ -16,11 +16,11 @@ use Rattle.monthfile.specs.declared.brought.Brought.{Brought}
 use Rattle.monthfile.specs.declared.brought.Brought.TheVariants.{Nothing, Opening, Offtake}
 use Rattle.monthfile.specs.declared.phase.Phase.{Phase}
 use Rattle.monthfile.specs.declared.phase.Phase.TheVariants.{Start, Segments, Terms, Meters, Peaks, Selected, Booked}
-use Rattle.monthfile.specs.File.{call_words, plan_words, Spot, spot_of, one_on, is_same_spot, comes_next, select_words, booking_words, file_words}
+use Rattle.monthfile.specs.File.{call_words, plan_words, Spot, spot_of, one_on, comes_next, select_words, booking_words, file_words}
 use Rattle.monthfile.specs.Inverse.{Gave, Holdable}
-use Rattle.monthfile.specs.Judging.{last_hour, redundant, by_plan, Standing, beginning, Layer, FILE, Verdict, Faulty, Taken, judge}
+use Rattle.monthfile.specs.Judging.{last_hour, by_plan, Standing, beginning, FILE, Faulty, Taken, judge}
 use Rattle.monthfile.specs.Reading.{Reading, reading, gone_on, preceded, booking_of, may_end}
-use Rattle.monthfile.proofs.Phases.{phase_for, Tidy, tidy_nothing, in_order, turn, not_yet_full, first_period, begun_from_full, phase_begun, tidy_kept, after_period, after_segment, after_meter, after_peak, empty_from, Filled, filled, meters≢start, meters≢segments, peaks≢start, peaks≢segments}
+use Rattle.monthfile.proofs.Phases.{phase_for, Tidy, tidy_nothing, in_order, turn, not_yet_full, first_period, begun_from_full, phase_begun, tidy_kept, after_period, after_segment, after_meter, after_peak}
 
 -- a word that is taken, and the rest
 taken : (st : Standing) (place : ℕ) (word : Word) (rest : List (Option Word)) (after : Standing) (brought : Brought)

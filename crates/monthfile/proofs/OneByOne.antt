@@ -1,16 +1,15 @@
 -- Reading word by word. Assumes nothing.
-use Rattle.std.proofs.Common.{◌≡◌, ℕ, ◌+◌, ◌≤◌, min, Bool, true, false, List, [], ◌∷◌, ◌++◌, map, length, get_or, is_ok, Some, None, Ok, Err, Option, Result, sym, refl, ap, ◌∙◌, subst, append_assoc, add-one, arith, length-append}
-use Rattle.std.proofs.lemmas.List.{append-nil, length_push}
+use Rattle.std.proofs.Common.{◌≡◌, ℕ, ◌+◌, ◌≤◌, true, false, List, [], ◌∷◌, ◌++◌, map, length, get_or, Some, None, Ok, Err, Option, sym, refl, ap, ◌∙◌, subst, append_assoc, arith, length-append}
+use Rattle.std.proofs.lemmas.List.{append-nil}
 use Rattle.plan.specs.declared.booking.Booking.{Booking}
 use Rattle.words.specs.Bytes.{last_number, number_at, numbered}
-use Rattle.words.specs.Layout.{Decoded}
 use Rattle.words.specs.declared.word.Word.{Word}
 use Rattle.monthfile.specs.declared.brought.Brought.{Brought}
 use Rattle.monthfile.specs.declared.brought.Brought.TheVariants.{Nothing, Opening, Offtake}
 use Rattle.monthfile.specs.declared.fault.ReadFault.{ReadFault}
-use Rattle.monthfile.specs.Faults.{Told, told, blamed, Judged, JudgedBits, Stepped}
-use Rattle.monthfile.specs.Judging.{FILE, Standing, Verdict, Faulty, Taken, judge}
-use Rattle.monthfile.specs.Reading.{Reading, reading, gone_on, preceded, ended, booking_of, followed, BlockByBlock, ReadTo, BlockRead, AllDecoded, fault_of}
+use Rattle.monthfile.specs.Faults.{Told, told, blamed, Stepped}
+use Rattle.monthfile.specs.Judging.{Standing, Verdict, Faulty, Taken, judge}
+use Rattle.monthfile.specs.Reading.{Reading, reading, gone_on, preceded, ended, booking_of, followed, BlockByBlock, ReadTo, BlockRead, AllDecoded}
 
 some≢none : {X : Type 0} {x : X} → Some x ≡ None → ⊥
 some≢none e = let z : ◌≡◌ {A = ℕ} 0 1 = cc in omega arith

@@ -1,7 +1,7 @@
 -- The phase that a plan's contents bring the reader to, and the calls behind contents, call by call. Assumes nothing.
-use Rattle.std.proofs.Common.{◌≡◌, ℕ, ◌+◌, ◌<◌, ◌≤◌, Bool, true, false, cond, not, ◌&&◌, eqb, ltb, List, [], ◌∷◌, ◌++◌, map, length, is_some, Some, None, Option, sym, refl, ap, ◌∙◌, subst, ⊎_elim, append_assoc, add-zero, add_assoc, arith}
+use Rattle.std.proofs.Common.{◌≡◌, ℕ, ◌+◌, ◌<◌, Bool, true, false, cond, List, [], ◌∷◌, ◌++◌, map, length, is_some, Some, None, Option, sym, refl, ap, ◌∙◌, subst, ⊎_elim, append_assoc, add-zero, arith}
 use Rattle.std.proofs.lemmas.List.{append-nil, length_push, map_push}
-use Rattle.std.proofs.lemmas.Bool.{false≢true, and_parts, and_left, eqb-true, ltb-true, not-true, cases_Bool, cond-true, cond-false, ne_eqb}
+use Rattle.std.proofs.lemmas.Bool.{false≢true, and_parts, eqb-true, ltb-true, not-true, cases_Bool, cond-true, cond-false, ne_eqb}
 use Rattle.plan.specs.Calls.{PlanCall, SetPeriod, AddSegment, AddMeter, AddCarried, refusal_of, after_call, comes_in_order, values_fit, has_meter, is_empty}
 use Rattle.plan.specs.Contents.{Contents, PeriodNumbers, SegmentNumbers, nothing}
 use Rattle.plan.specs.Limits.{most_segments}

@@ -6,7 +6,7 @@ use Rattle.plan.specs.Questions.{is_full}
 use Rattle.plan.specs.WellMade.{is_well_made}
 use Rattle.plan.specs.declared.booking.Booking.{Booking}
 use Rattle.words.specs.declared.word.Word.{Word}
-use Rattle.monthfile.specs.Judging.{Standing, beginning, last_hour}
+use Rattle.monthfile.specs.Judging.{beginning, last_hour}
 use Rattle.monthfile.specs.File.{file_words}
 use Rattle.monthfile.specs.Reading.{Reading, reading, may_end}
 

@@ -3,14 +3,13 @@ use Rattle.std.specs.Prelude.{ℕ, ◌+◌, Bool, true, false, cond, not, ◌&&�
 use Rattle.plan.specs.Calls.{PlanCall, SetPeriod, AddSegment, AddMeter, AddCarried, refusal_of, after_call}
 use Rattle.plan.specs.Contents.{Contents, nothing}
 use Rattle.plan.specs.Questions.{is_full}
-use Rattle.plan.specs.declared.booking.Booking.{Booking}
 use Rattle.words.specs.declared.word.Word.{Word}
 use Rattle.words.specs.declared.word.Word.TheVariants.{Period, Segment, Factor, Meter, Select, Amount, Carried}
 use Rattle.monthfile.specs.declared.phase.Phase.{Phase}
 use Rattle.monthfile.specs.declared.phase.Phase.TheVariants.{Start, Segments, Terms, Meters, Peaks, Selected, Booked}
 use Rattle.monthfile.specs.declared.brought.Brought.{Brought}
 use Rattle.monthfile.specs.declared.brought.Brought.TheVariants.{Nothing, Opening, Offtake}
-use Rattle.monthfile.specs.File.{Spot, one_on, is_same_spot}
+use Rattle.monthfile.specs.File.{Spot, is_same_spot}
 
 -- the last hour that a select names
 abbrev pub last_hour : ℕ

@@ -1,4 +1,6 @@
 // Reads a month file: judges each word, fills the plan and hands the bookings on.
+#![tactic(auto)]
+
 mod blocks;
 mod brought;
 mod fault;

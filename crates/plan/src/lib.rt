@@ -1,4 +1,6 @@
 // The plan that a gas month is opened from: its period, the terms of its segments, its meters and their carried peaks.
+#![tactic(auto)]
+
 mod booking;
 mod carried;
 mod fault;

@@ -1,4 +1,6 @@
 // A shipper's calculator on the command line: it prints the figures that he recomputes from the published rules.
+#![tactic(auto)]
+
 use anyhow::anyhow;
 use calculator::{Reply, reply_to};
 use std::env;

@@ -1,4 +1,6 @@
 // The terms of a segment: its service, tariff and factor; its total and the fees of capacity.
+#![tactic(auto)]
+
 mod fault;
 mod fees;
 mod quotient;

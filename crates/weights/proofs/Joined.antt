@@ -1,5 +1,5 @@
 -- What the laws of a joining give of amounts that are joined one by one.
-use Rattle.std.proofs.Common.{◌≡◌, ℕ, ◌+◌, ◌<◌, ◌≤◌, cond, List, [], ◌∷◌, length, get_or, set, is_some, is_ok, Some, None, Ok, Err, Option, Result, refl, ap, ◌∙◌, subst, zero-add, one-add, arith}
+use Rattle.std.proofs.Common.{◌≡◌, ℕ, ◌+◌, ◌<◌, ◌≤◌, cond, List, [], ◌∷◌, length, get_or, is_some, is_ok, Some, None, Ok, Err, Option, Result, refl, ap, ◌∙◌, subst, zero-add, one-add, arith}
 use mathlib.Core.List.{Perm, Permᴰ, is_set}
 use mathlib.Core.Logic.{∥∥₁_elim}
 use native.Mathlib.Nat.{ℕ_set}

@@ -1,4 +1,5 @@
 //! Weight sources: how the amounts of a month become one weight for each meter of a segment.
+#![tactic(auto)]
 
 mod adding;
 mod fault;

@@ -1,6 +1,5 @@
 -- A value put into the empty low bits of a word.
 use Rattle.std.proofs.Common.{◌≡◌, ℕ, ◌+◌, ◌*◌, ◌/◌, ◌%◌, ◌^◌, ◌<◌, ◌≤◌, sym, ap, ◌∙◌, add_comm, arith}
-use native.Mathlib.Nat.{div-eq_of_lt}
 use lib.Bits.{bit_or}
 use Rattle.std.proofs.lemmas.Nat.{or_shifted, shl_below, shl_whole, shr_split, pow_pos, mod_below}
 

@@ -1,4 +1,6 @@
 // The words of a month file: their kinds and bit fields, and the window over a block of them.
+#![tactic(auto)]
+
 mod codec;
 mod collect;
 mod field;

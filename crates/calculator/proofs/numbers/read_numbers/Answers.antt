@@ -1,5 +1,4 @@
-use Rattle.std.proofs.Common.{◌≡◌, ℕ, ◌+◌, ◌^◌, ◌<◌, List, [], ◌∷◌, ◌++◌, get_or, take, vec_items, string_bytes, sym, ap, ◌∙◌, subst, arith}
-use Rattle.std.specs.Str.Parse.{IsNumeral, without_leading_plus, digits_value}
+use Rattle.std.proofs.Common.{◌+◌, [], ◌∷◌, ◌++◌, take, vec_items, string_bytes, sym, ap, ◌∙◌, subst, arith}
 use Rattle.std.proofs.lemmas.List.{take_more, take_all}
 use Rattle.calculator.specs.Replies.{Writes, WriteAll}
 use Rattle.calculator.proofs.Words.{write_all_push, write_all_at}

@@ -1,4 +1,4 @@
-use Rattle.std.proofs.Common.{◌≡◌, ℕ, [], ◌++◌, get_or, take, string_bytes, codes, decimal, sym, ap, ◌∙◌, append_assoc, arith}
+use Rattle.std.proofs.Common.{◌≡◌, [], ◌++◌, get_or, take, string_bytes, codes, decimal, sym, ap, ◌∙◌, append_assoc, arith}
 use Rattle.std.proofs.lemmas.List.{take_all}
 use Rattle.calculator.specs.Replies.{spaced}
 use Rattle.calculator.proofs.Words.{spaced_more, spaced_one}

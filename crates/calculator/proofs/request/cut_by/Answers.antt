@@ -1,4 +1,4 @@
-use Rattle.std.proofs.Common.{ℕ, List, get_or, subst, arith}
+use Rattle.std.proofs.Common.{get_or, subst, arith}
 use Rattle.std.proofs.lemmas.List.{take_rest}
 use Rattle.apportion.specs.Cutting.{most_weights, refusal}
 use Rattle.calculator.specs.Requests.{Says}

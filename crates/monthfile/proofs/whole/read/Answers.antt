@@ -1,13 +1,9 @@
-use Rattle.std.proofs.Common.{◌≡◌, ◌^◌, ◌<◌, List, [], is_err, None, Ok, Err, vec_items, Result, sym, refl, ap, ◌∙◌, subst, MatchResult}
+use Rattle.std.proofs.Common.{◌≡◌, ◌^◌, ◌<◌, is_err, None, Ok, Err, vec_items, sym, ap, ◌∙◌, subst, MatchResult}
 use Rattle.std.specs.List.{AllByRecursion as All}
 use Rattle.std.proofs.ByRecursion.{All-from_get_or}
 use Rattle.std.proofs.lemmas.Result.{err_from_is_err_and, IfOk-from_err}
 use Rattle.plan.specs.OfPlan.{contents}
-use Rattle.words.specs.Bytes.{words_of}
-use Rattle.monthfile.specs.declared.fault.ReadFault.{ReadFault}
 use Rattle.monthfile.specs.Faults.{told}
-use Rattle.monthfile.specs.Judging.{Standing}
-use Rattle.monthfile.specs.Reading.{BlockRead}
 use Rattle.monthfile.specs.View.{standing_of}
 use Rattle.monthfile.specs.Whole.{TellsFirst}
 use Rattle.monthfile.proofs.Entire.{file_and_reading, stopped_back, stopped_tells, ended_back, ended_tells, taken_back, taken_file, taken_fileable, taken_tells, from_start}

@@ -1,4 +1,4 @@
-use Rattle.std.proofs.Common.{◌≡◌, [], ◌∷◌, ◌++◌, vec_items, sym, ◌∙◌, arith}
+use Rattle.std.proofs.Common.{[], ◌∷◌, vec_items, arith}
 use Rattle.std.proofs.lemmas.List.{append_assoc, append-nil}
 use Rattle.std.proofs.ByRecursion.{All-from_get_or}
 use Rattle.words.specs.Windows.{entries}

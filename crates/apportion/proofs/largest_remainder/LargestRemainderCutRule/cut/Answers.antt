@@ -1,4 +1,4 @@
-use Rattle.std.proofs.Common.{◌≡◌, length, set, sym, ap, ◌∙◌, arith}
+use Rattle.std.proofs.Common.{length, set, sym, ap, ◌∙◌, arith}
 use Rattle.apportion.specs.Cutting.{greatest_total}
 use Rattle.apportion.specs.LargestRemainder.{share_by_remainder}
 use Rattle.apportion.proofs.Admitted.{admitted}

@@ -1,4 +1,4 @@
-use Rattle.std.proofs.Common.{◌≡◌, ◌+◌, ◌-◌, ◌*◌, ◌/◌, length, get_or, take, set, sum, sym, ap, ◌∙◌, arith}
+use Rattle.std.proofs.Common.{length, set, sym, ap, ◌∙◌, arith}
 use Rattle.std.proofs.lemmas.List.Sums.{sum_by_more}
 use Rattle.apportion.specs.Cutting.{greatest_total}
 use Rattle.apportion.specs.RunningCut.{share_by_running}

@@ -1,11 +1,10 @@
-use Rattle.std.proofs.Common.{◌≡◌, cond, sym, ap, subst}
+use Rattle.std.proofs.Common.{cond, sym, ap, subst}
 use Rattle.plan.specs.OfPlan.{contents}
 use Rattle.plan.specs.Calls.{AddSegment}
 use Rattle.words.specs.declared.word.Word.TheVariants.{Factor}
 use Rattle.plan.specs.Questions.{is_full}
-use Rattle.monthfile.specs.declared.phase.Phase.TheVariants.{Segments, Meters, Terms}
+use Rattle.monthfile.specs.declared.phase.Phase.TheVariants.{Segments, Meters}
 use Rattle.monthfile.specs.Faults.{Judged, JudgedByPlan}
-use Rattle.monthfile.specs.Judging.{Standing}
 use Rattle.monthfile.specs.View.{standing_of}
 use Rattle.monthfile.proofs.Factor.{factor_judged}
 use Rattle.monthfile.proofs.reader.Reader.judged.Goals as goal

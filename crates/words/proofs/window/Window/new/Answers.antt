@@ -1,4 +1,4 @@
-use Rattle.std.proofs.Common.{◌≡◌, ℕ, List, ◌++◌, length, ap, ◌∙◌, arith, rules}
+use Rattle.std.proofs.Common.{◌≡◌, ◌++◌, length, ap, ◌∙◌, arith, rules}
 use Rattle.words.specs.Bytes.{words_of, numbered, number_at}
 use Rattle.words.proofs.Spelling.{words_append, left_over-append, length-words}
 use Rattle.words.proofs.Numbering.{numbered-append}

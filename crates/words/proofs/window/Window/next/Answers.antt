@@ -1,5 +1,5 @@
-use Rattle.std.proofs.Common.{◌≤◌, length, ap, ◌∙◌, arith}
-use Rattle.words.specs.Bytes.{left_over, numbered}
+use Rattle.std.proofs.Common.{◌≤◌, length, ap, arith}
+use Rattle.words.specs.Bytes.{numbered}
 use Rattle.words.proofs.Spelling.{words_front, left_over-front}
 use Rattle.words.proofs.window.Window.next.Goals as goal
 
