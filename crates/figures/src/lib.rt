@@ -2,13 +2,13 @@
 #![tactic(auto)]
 
 ghost use Rattle.std.specs.Prelude.{◌≡◌, length};
-ghost use Rattle.std.specs.List.{AllByRecursion as All};
+ghost use Rattle.std.specs.List.{AllByRecursion};
 ghost use Rattle.figures.specs.Table.{Holds, table};
 
 // How many figures the table has; each of them holds.
 pub fn worked_figures() -> usize
     ensures count { result ≡ length table }
-    ensures hold { All Holds table }
+    ensures hold { AllByRecursion Holds table }
 {
     18
 }

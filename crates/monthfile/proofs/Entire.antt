@@ -1,6 +1,6 @@
 -- The reading of all words of a file: what it gives, and what it tells. Assumes nothing.
 use Rattle.std.proofs.Common.{◌≡◌, ℕ, ◌/◌, ◌%◌, ◌^◌, ◌<◌, Bool, true, false, cond, ◌&&◌, eqb, List, [], ◌∷◌, ◌++◌, map, length, is_some, Some, None, Ok, Err, Option, Result, sym, refl, ap, ◌∙◌, subst, arith}
-use Rattle.std.specs.List.{flat_map, AllByRecursion as All}
+use Rattle.std.specs.List.{flat_map, AllByRecursion}
 use Rattle.std.proofs.ByRecursion.{All-map, All-weaker}
 use Rattle.std.proofs.lemmas.List.{append-nil, nil_from_length}
 use Rattle.std.proofs.lemmas.Bool.{false≢true, eqb-true}
@@ -81,7 +81,7 @@ all_decode (n ∷ ns) =
     let others = all_decode ns in
     (first.0 ∷ others.0, (first.1, others.1))
 
-fit_decoded : (ws : List Word) → All FieldsFit ws → AllDecoded (map encoded ws) (map Some ws)
+fit_decoded : (ws : List Word) → AllByRecursion FieldsFit ws → AllDecoded (map encoded ws) (map Some ws)
 fit_decoded [] fit = tt
 fit_decoded (w ∷ ws) fit = ((fit.0, refl), fit_decoded ws fit.1)
 
@@ -108,7 +108,7 @@ module _ (bytes : List ℕ) where
     spells : bytes ≡ flat_map spelled (map encoded ws)
     spells = is ∙ bytes_spelled ws
 
-    fit : All FieldsFit ws
+    fit : AllByRecursion FieldsFit ws
     fit = file_words_fit plan bookings (makes_itself plan f.made) f.held
 
     has_words : AllDecoded (words_of bytes) (map Some ws)
@@ -214,7 +214,7 @@ module _ (bytes : List ℕ) where
           let also = reads p bs f is block.words decoded-all in
           (sym gave.planned ∙ also.planned, sym gave.booked ∙ also.booked)
 
-      pub taken_file : All (λ b. b < 2 ^ 8) bytes → bytes ≡ file_of plan bookings
+      pub taken_file : AllByRecursion (λ b. b < 2 ^ 8) bytes → bytes ≡ file_of plan bookings
       taken_file small =
           let ws : List Word = file_words plan bookings in
           let bits : words_of bytes ≡ map encoded ws =
@@ -228,7 +228,7 @@ module _ (bytes : List ℕ) where
           let h = held (words_of bytes) block.words decoded-all beginning 0 tt in record {
             made = made;
             full = ap (λ p. is_full p) (sym gave.planned) ∙ full_at_end r.standing.phase r.standing.plan gave.ends h.0;
-            held = subst (All Holdable) gave.booked h.1;
+            held = subst (AllByRecursion Holdable) gave.booked h.1;
           }
 
 -- a block that was read from the start of a file

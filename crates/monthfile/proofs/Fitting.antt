@@ -1,6 +1,6 @@
 -- Every word of a file fits its bits. Assumes nothing.
 use Rattle.std.proofs.Common.{◌≡◌, ℕ, ◌+◌, ◌-◌, ◌*◌, ◌^◌, ◌<◌, ◌≤◌, Bool, true, false, cond, not, ◌&&◌, ◌||◌, eqb, ltb, leb, List, [], ◌∷◌, length, is_some, Some, None, Option, arith}
-use Rattle.std.specs.List.{flat_map, AllByRecursion as All}
+use Rattle.std.specs.List.{flat_map, AllByRecursion}
 use Rattle.std.proofs.ByRecursion.{All-append}
 use Rattle.std.proofs.lemmas.Bool.{false≢true, and_parts, cond_both, leb-true, ltb-true}
 use Rattle.std.proofs.lemmas.Bool.Decides.{nat_tests}
@@ -76,7 +76,7 @@ terms_are_fitting (Some p) s h =
     service_below : (whole : Bool) (n : ℕ) → allows_service whole n ≡ true → n < 2 ^ 2
     service_below whole n e = grind (arith, nat_tests)
 
-call_fits : (plan : Contents) (call : PlanCall) → refusal_of plan call ≡ None → All FieldsFit (call_words call)
+call_fits : (plan : Contents) (call : PlanCall) → refusal_of plan call ≡ None → AllByRecursion FieldsFit (call_words call)
 call_fits plan (SetPeriod p) none =
     let taken = passed (comes_in_order plan (SetPeriod p)) (values_fit plan (SetPeriod p)) true none in
     (period_is_fitting p.year p.month p.hours taken.within_is, tt)
@@ -93,22 +93,22 @@ call_fits plan (AddCarried p) none =
     let w = peak_within p (passed (comes_in_order plan (AddCarried p)) (values_fit plan (AddCarried p)) (has_meter plan (AddCarried p)) none).within_is in
     ((w.meter_below, omega (arith, w.amount_most)), tt)
 
-calls_fit : (calls : List PlanCall) (plan end : Contents) → Makes plan calls end → All FieldsFit (flat_map call_words calls)
+calls_fit : (calls : List PlanCall) (plan end : Contents) → Makes plan calls end → AllByRecursion FieldsFit (flat_map call_words calls)
 calls_fit [] plan end makes = tt
 calls_fit (call ∷ calls) plan end makes =
     All-append FieldsFit (call_words call) (flat_map call_words calls) (call_fits plan call makes.0) (calls_fit calls (after_call plan call) end makes.1)
 
-select_fits : (next : Bool) (b : Booking) → Holdable b → All FieldsFit (select_words next (spot_of b))
+select_fits : (next : Bool) (b : Booking) → Holdable b → AllByRecursion FieldsFit (select_words next (spot_of b))
 select_fits true b held = tt
 select_fits false b held = ((held.segment, held.meter, omega (arith, held.hour)), tt)
 
-bookings_fit : (next : Option Spot) (bs : List Booking) → All Holdable bs → All FieldsFit (booking_words next bs)
+bookings_fit : (next : Option Spot) (bs : List Booking) → AllByRecursion Holdable bs → AllByRecursion FieldsFit (booking_words next bs)
 bookings_fit next [] all = tt
 bookings_fit next (b ∷ bs) all =
     All-append FieldsFit (select_words (comes_next next (spot_of b)) (spot_of b)) (Amount b.amount ∷ booking_words (Some (one_on (spot_of b))) bs)
     (select_fits (comes_next next (spot_of b)) b all.0) (all.0.amount, bookings_fit (Some (one_on (spot_of b))) bs all.1)
 
-pub file_words_fit : (plan : Contents) (bookings : List Booking) → Makes nothing (calls_of plan) plan → All Holdable bookings
-    → All FieldsFit (file_words plan bookings)
+pub file_words_fit : (plan : Contents) (bookings : List Booking) → Makes nothing (calls_of plan) plan → AllByRecursion Holdable bookings
+    → AllByRecursion FieldsFit (file_words plan bookings)
 file_words_fit plan bookings makes all =
     All-append FieldsFit (plan_words plan) (booking_words None bookings) (calls_fit (calls_of plan) nothing plan makes) (bookings_fit None bookings all)

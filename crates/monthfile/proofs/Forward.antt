@@ -1,6 +1,6 @@
 -- Reading the words of a file gives its plan and its bookings back. Assumes nothing.
 use Rattle.std.proofs.Common.{◌≡◌, ℕ, ◌+◌, Bool, true, false, cond, not, ◌&&◌, eqb, leb, List, [], ◌∷◌, ◌++◌, map, Some, None, Option, sym, refl, ap, ◌∙◌, subst, ⊎_elim, append_assoc, arith}
-use Rattle.std.specs.List.{flat_map, AllByRecursion as All}
+use Rattle.std.specs.List.{flat_map, AllByRecursion}
 use Rattle.std.proofs.lemmas.List.{map-append}
 use Rattle.std.proofs.lemmas.Bool.{false≢true, and_parts, cases_Bool, eqb-true, le-leb}
 use Rattle.std.proofs.lemmas.Bool.Decides.{nat_tests}
@@ -178,7 +178,7 @@ module _ (plan : Contents) (b : Booking) (fits : Holdable b) where
             ∙ ap (λ t. cond t (Taken (at (Selected b.segment b.meter b.hour) plan) Nothing) (Faulty FILE 3)) hour_fits,
       )
 
-reads_bookings : (bs : List Booking) → All Holdable bs → {phase : Phase} {next : Option Spot} → Ready phase next → (plan : Contents) (place : ℕ)
+reads_bookings : (bs : List Booking) → AllByRecursion Holdable bs → {phase : Phase} {next : Option Spot} → Ready phase next → (plan : Contents) (place : ℕ)
     → Gave plan bs (reading (at phase plan) place (map Some (booking_words next bs)))
 reads_bookings [] all ready plan place = record { no_fault = refl; ends = ready_ends ready; planned = refl; booked = refl }
 reads_bookings (b ∷ bs) all {phase} {next} ready plan place =
@@ -217,7 +217,7 @@ ready_full plan tidy full =
     go true = after_meters
     go false = after_peaks
 
-pub reads_back : (plan : Contents) (bookings : List Booking) → Makes nothing (calls_of plan) plan → is_full plan ≡ true → All Holdable bookings → (place : ℕ)
+pub reads_back : (plan : Contents) (bookings : List Booking) → Makes nothing (calls_of plan) plan → is_full plan ≡ true → AllByRecursion Holdable bookings → (place : ℕ)
     → Gave plan bookings (reading beginning place (map Some (file_words plan bookings)))
 reads_back plan bookings makes full all place =
     let rest : List (Option Word) = map Some (booking_words None bookings) in

@@ -1,6 +1,6 @@
 -- What was read from words can be filed again: its bookings can be held, and at the end the plan is full. Assumes nothing.
 use Rattle.std.proofs.Common.{◌≡◌, ℕ, ◌^◌, ◌<◌, ◌≤◌, Bool, true, false, cond, List, [], ◌∷◌, Some, None, Option, sym, refl, subst}
-use Rattle.std.specs.List.{AllByRecursion as All}
+use Rattle.std.specs.List.{AllByRecursion}
 use Rattle.std.proofs.ByRecursion.{All-append}
 use Rattle.std.proofs.lemmas.Bool.{false≢true, leb-true}
 use Rattle.plan.specs.Calls.{AddSegment, after_call}
@@ -34,7 +34,7 @@ after_factor false plan e = tt
 abbrev Goal : Phase → Contents → Word → Type 0
 Goal phase plan word =
     Ready (phase_after (plan_after plan (call_of phase word)) phase word) (plan_after plan (call_of phase word))
-    × All Holdable (booking_of (brought_by phase word))
+    × AllByRecursion Holdable (booking_of (brought_by phase word))
 
 stays : {phase : Phase} {word : Word} → Allowed phase word → (plan : Contents) → Ready phase plan → FieldsFit word → within_limits phase word ≡ true
     → Goal phase plan word
@@ -55,7 +55,7 @@ stays (next_amount {s} {m} {h} {a}) plan ready fit limits =
     ((ready.0, ready.1, ready.2), (record { segment = ready.1; meter = ready.2; hour = leb-true h last_hour limits; amount = fit }, tt))
 
 abbrev Held : Reading → Type 0
-Held r = Ready r.standing.phase r.standing.plan × All Holdable r.bookings
+Held r = Ready r.standing.phase r.standing.plan × AllByRecursion Holdable r.bookings
 
 pub held : (bits : List ℕ) (words : List (Option Word)) → AllDecoded bits words → (st : Standing) (place : ℕ) → Ready st.phase st.plan
     → Held (reading st place words)
@@ -75,7 +75,7 @@ held (n ∷ bits) (Some word ∷ words) decoded st place ready =
         let rest = later after (subst (λ x. Ready x.phase x.plan) (sym p.after_is) here.0) in (
           rest.0,
           All-append Holdable (booking_of brought) (reading after (number_at place 1) words).bookings
-              (subst (λ x. All Holdable (booking_of x)) (sym p.brought_is) here.1) rest.1,
+              (subst (λ x. AllByRecursion Holdable (booking_of x)) (sym p.brought_is) here.1) rest.1,
         )
 
 pub full_at_end : (phase : Phase) (plan : Contents) → may_end phase ≡ true → Ready phase plan → is_full plan ≡ true

@@ -1,6 +1,6 @@
 -- A file and its reading are inverse. Assumes nothing.
 use Rattle.std.specs.Prelude.{◌≡◌, ℕ, ◌^◌, ◌<◌, ◌≤◌, true, List, map, Some, None, Option}
-use Rattle.std.specs.List.{AllByRecursion as All}
+use Rattle.std.specs.List.{AllByRecursion}
 use Rattle.plan.specs.Contents.{Contents}
 use Rattle.plan.specs.Questions.{is_full}
 use Rattle.plan.specs.WellMade.{is_well_made}
@@ -21,7 +21,7 @@ pub record Holdable (b : Booking) : Type 0 where
 pub record Fileable (plan : Contents) (bookings : List Booking) : Type 0 where
   pub made : is_well_made plan ≡ true
   pub full : is_full plan ≡ true
-  pub held : All Holdable bookings
+  pub held : AllByRecursion Holdable bookings
 
 -- a reading that took every word and ended well, with this plan and these bookings
 pub record Gave (plan : Contents) (bookings : List Booking) (r : Reading) : Type 0 where

@@ -1,6 +1,6 @@
 -- What a booking that a file can hold comes to, and that every word of a file fits its bits. Assumes nothing.
 use Rattle.std.proofs.Common.{◌≡◌, true, List, [], ◌∷◌, arith}
-use Rattle.std.specs.List.{list_all, AllByRecursion as All}
+use Rattle.std.specs.List.{list_all, AllByRecursion}
 use Rattle.std.proofs.lemmas.Bool.{and_parts}
 use Rattle.std.proofs.lemmas.Bool.Decides.{nat_tests}
 use Rattle.plan.specs.Contents.{Contents}
@@ -21,9 +21,9 @@ held b fit = record {
   amount = grind (arith, nat_tests);
 }
 
-pub all_held : (bs : List Booking) → list_all is_held bs ≡ true → All Holdable bs
+pub all_held : (bs : List Booking) → list_all is_held bs ≡ true → AllByRecursion Holdable bs
 all_held [] fit = tt
 all_held (b ∷ bs) fit = let both = and_parts (is_held b) (list_all is_held bs) fit in (held b both.0, all_held bs both.1)
 
-pub file_fits : (plan : Contents) (bs : List Booking) → is_well_made plan ≡ true → All Holdable bs → All FieldsFit (file_words plan bs)
+pub file_fits : (plan : Contents) (bs : List Booking) → is_well_made plan ≡ true → AllByRecursion Holdable bs → AllByRecursion FieldsFit (file_words plan bs)
 file_fits plan bs made fit = file_words_fit plan bs (makes_itself plan made) fit

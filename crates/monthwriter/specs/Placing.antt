@@ -1,7 +1,7 @@
 -- Words put into memory from a place on. Promises of the code's own parts cite it, no public promise does.
 use Rattle.std.specs.Prelude.{◌≡◌, ℕ, ◌+◌, ◌*◌, ◌≤◌, List, [], ◌∷◌, ◌++◌, length, take, drop, Option}
 use Rattle.std.specs.Option.{option_map}
-use Rattle.std.specs.List.{AllByRecursion as All}
+use Rattle.std.specs.List.{AllByRecursion}
 use Rattle.plan.specs.declared.booking.Booking.{Booking}
 use Rattle.plan.specs.declared.carried.CarriedPeak.{CarriedPeak}
 use Rattle.plan.specs.declared.meter.Meter.{Meter as PlanMeter}
@@ -22,7 +22,7 @@ with_words start words memory =
 
 -- words that fit their bits, and memory that has room for them from a place on
 pub record RoomFor (start : ℕ) (words : List Word) (memory : List ℕ) : Type 0 where
-  pub fits : All FieldsFit words
+  pub fits : AllByRecursion FieldsFit words
   pub long : start + word_bytes * length words ≤ length memory
 
 -- what putting words leaves: the memory with them; and the place after them, which is the answer

@@ -3,7 +3,7 @@ use Rattle.std.proofs.Common.{◌≡◌, ℕ, ◌+◌, ◌<◌, ◌≤◌, cond,
 use mathlib.Core.List.{Perm, Permᴰ, is_set}
 use mathlib.Core.Logic.{∥∥₁_elim}
 use native.Mathlib.Nat.{ℕ_set}
-use Rattle.std.specs.List.{AllByRecursion as All}
+use Rattle.std.specs.List.{AllByRecursion}
 use Rattle.std.proofs.lemmas.List.{get_or-set_same, set-set}
 use Rattle.std.proofs.lemmas.Bool.Decides.{nat_tests}
 use Rattle.weights.specs.Accepted.{accepted, accepted_at, joined_all, weights_after, NotedEach}
@@ -124,7 +124,7 @@ module _ (join : ℕ → ℕ → ℕ) where
   pub joined_all-covers : Keeps join →
       Covers join →
       (weight : ℕ) (amounts : List ℕ) →
-      All (λ amount. amount ≤ joined_all join weight amounts) amounts
+      AllByRecursion (λ amount. amount ≤ joined_all join weight amounts) amounts
   joined_all-covers keeps covers weight [] = tt
   joined_all-covers keeps covers weight (amount ∷ rest) = (
     omega (arith, covers weight amount, joined_all-keeps keeps (join weight amount) rest),

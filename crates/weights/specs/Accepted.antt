@@ -1,7 +1,7 @@
 -- Amounts noted for one meter, one after another: which are accepted, and what they bring the weights to.
 use Rattle.std.specs.Prelude.{◌≡◌, ℕ, ◌≤◌, cond, List, [], ◌∷◌, length, is_some, slice_index, slice_index_or, slice_set}
 use mathlib.Core.List.{Perm}
-use Rattle.std.specs.List.{AllByRecursion as All}
+use Rattle.std.specs.List.{AllByRecursion}
 use Rattle.weights.specs.Answers.{note_refusal}
 
 -- a weight joined with amounts, one by one
@@ -37,7 +37,7 @@ module _ (join : ℕ → ℕ → ℕ) (weights : List ℕ) (meter : ℕ) where
     pub left : after ≡ weights_after amounts
     -- the meter's weight does not fall, and is at least each accepted amount
     pub kept : slice_index_or weights meter 0 ≤ weight_after amounts
-    pub covered : All (λ amount. amount ≤ weight_after amounts) (accepted_at amounts)
+    pub covered : AllByRecursion (λ amount. amount ≤ weight_after amounts) (accepted_at amounts)
     -- noted in any other order, the accepted amounts are all accepted and leave the same weights
     pub rearranged : (others : List ℕ) →
         Perm (accepted_at amounts) others →

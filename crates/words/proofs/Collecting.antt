@@ -1,6 +1,6 @@
 -- What the numbered words of a block tell of its bytes and its places.
 use Rattle.std.proofs.Common.{◌≡◌, ℕ, zero, suc, ◌^◌, ◌<◌, ◌≤◌, List, [], ◌∷◌, ◌++◌, length, get_or, refl, ap, ◌∙◌, arith}
-use Rattle.std.specs.List.{flat_map, AllByRecursion as All}
+use Rattle.std.specs.List.{flat_map, AllByRecursion}
 use Rattle.words.specs.Bytes.{spelled, words_of, left_over, last_number, number_at, numbered, Collected}
 use Rattle.words.proofs.Spelling.{words_spelled, spelled_words}
 
@@ -13,7 +13,7 @@ number_at-is n [] k small within = absurd (omega arith)
 number_at-is n (w ∷ ws) zero small within = omega arith
 number_at-is n (w ∷ ws) (suc k) small within = number_at-is (number_at n 1) ws k (omega arith) (omega arith) ∙ omega arith
 
-pub collected : (block : List ℕ) (n : ℕ) (items : List (ℕ × ℕ)) → All (λ b. b < 2 ^ 8) block → n ≤ last_number
+pub collected : (block : List ℕ) (n : ℕ) (items : List (ℕ × ℕ)) → AllByRecursion (λ b. b < 2 ^ 8) block → n ≤ last_number
     → items ≡ numbered n (words_of block) → Collected block n items
 collected block n items bytes small shown = record {
   shown = shown;

@@ -1,6 +1,6 @@
 -- The words of bytes, and the bytes of words.
 use Rattle.std.proofs.Common.{◌≡◌, ℕ, ◌+◌, ◌*◌, ◌/◌, ◌%◌, ◌^◌, ◌<◌, ◌≤◌, List, [], ◌∷◌, ◌++◌, length, get_or, take, drop, refl, ap, ◌∙◌, arith}
-use Rattle.std.specs.List.{flat_map, AllByRecursion as All}
+use Rattle.std.specs.List.{flat_map, AllByRecursion}
 use Rattle.std.proofs.lemmas.Nat.{mod-pow-add}
 use Rattle.words.specs.Bytes.{spelled, words_of, left_over}
 
@@ -56,7 +56,7 @@ word_spelled : (word : ℕ) → word < 2 ^ 32
 word_spelled word small = omega (arith, mod-pow-add word 8 24, mod-pow-add word 8 16, mod-pow-add word 8 8)
 
 -- the words of spelled words are those
-pub words_spelled : (ws : List ℕ) → All (λ w. w < 2 ^ 32) ws → words_of (flat_map spelled ws) ≡ ws
+pub words_spelled : (ws : List ℕ) → AllByRecursion (λ w. w < 2 ^ 32) ws → words_of (flat_map spelled ws) ≡ ws
 words_spelled [] fit = refl
 words_spelled (w ∷ ws) fit = rw (words_spelled ws fit.1, word_spelled w fit.0)
 
@@ -70,7 +70,7 @@ bytes_of_word a b c d a' b' c' d' =
     cc
 
 -- the words spelled and the bytes left over are the bytes
-pub spelled_words : (bs : List ℕ) → All (λ b. b < 2 ^ 8) bs → flat_map spelled (words_of bs) ++ left_over bs ≡ bs
+pub spelled_words : (bs : List ℕ) → AllByRecursion (λ b. b < 2 ^ 8) bs → flat_map spelled (words_of bs) ++ left_over bs ≡ bs
 spelled_words [] fit = refl
 spelled_words (a ∷ []) fit = refl
 spelled_words (a ∷ b ∷ []) fit = refl

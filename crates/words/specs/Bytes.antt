@@ -1,6 +1,6 @@
 -- The bytes of a month file's words, highest byte first, and the numbers of the words. Assumes nothing.
 use Rattle.std.specs.Prelude.{◌≡◌, ℕ, ◌+◌, ◌-◌, ◌*◌, ◌/◌, ◌%◌, ◌^◌, ◌<◌, min, List, [], ◌∷◌, ◌++◌, length, slice_index_or}
-use Rattle.std.specs.List.{flat_map, AllByRecursion as All}
+use Rattle.std.specs.List.{flat_map, AllByRecursion}
 
 -- the four bytes of a word
 abbrev pub spelled : ℕ → List ℕ
@@ -40,5 +40,5 @@ numbered n (word ∷ words) = (n, word) ∷ numbered (number_at n 1) words
 pub record Collected (block : List ℕ) (n : ℕ) (items : List (ℕ × ℕ)) : Type 0 where
   pub shown : items ≡ numbered n (words_of block)
   pub spells : flat_map (λ entry. spelled entry.1) items ++ left_over block ≡ block
-  pub written : (words : List ℕ) → All (λ word. word < 2 ^ 32) words → block ≡ flat_map spelled words → items ≡ numbered n words
+  pub written : (words : List ℕ) → AllByRecursion (λ word. word < 2 ^ 32) words → block ≡ flat_map spelled words → items ≡ numbered n words
   pub places : (k : ℕ) → k < length items → (slice_index_or items k (0, 0)).0 ≡ number_at n k

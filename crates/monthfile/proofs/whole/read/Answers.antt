@@ -1,5 +1,5 @@
 use Rattle.std.proofs.Common.{◌≡◌, ◌^◌, ◌<◌, is_err, None, Ok, Err, vec_items, sym, ap, ◌∙◌, subst, MatchResult}
-use Rattle.std.specs.List.{AllByRecursion as All}
+use Rattle.std.specs.List.{AllByRecursion}
 use Rattle.std.proofs.ByRecursion.{All-from_get_or}
 use Rattle.std.proofs.lemmas.Result.{err_from_is_err_and, IfOk-from_err}
 use Rattle.plan.specs.OfPlan.{contents}
@@ -50,7 +50,7 @@ returns c =
     let end = standing_of c.read_block.new.self in
     let block = from_start bytes (standing_of c.new-reader.result) (vec_items c.new-bookings.result) (Ok tt) later end c.new-reader.ensures c.new-bookings.ensures.items c.in_ok-read_block.ensures.read in
     let may = c.in_ok-plan.ensures in
-    let small : All (λ b. b < 2 ^ 8) bytes = All-from_get_or _ bytes 0 (λ k _. (c.type_inv.bytes k).fits) in
+    let small : AllByRecursion (λ b. b < 2 ^ 8) bytes = All-from_get_or _ bytes 0 (λ k _. (c.type_inv.bytes k).fits) in
     record {
       file = (taken_fileable bytes later end block (contents plan) may.1 may.0 plan.well_made, taken_file bytes later end block (contents plan) may.1 may.0 small);
       back = taken_back bytes later end block (contents plan) may.1 may.0;
