@@ -7,6 +7,7 @@ mod fault;
 mod judging;
 mod phase;
 mod reader;
+mod telling;
 mod whole;
 
 pub use brought::Brought;
@@ -14,4 +15,5 @@ pub use fault::{FileFault, Placed, ReadFault, at_place};
 pub use judging::LAST_HOUR;
 pub use phase::Phase;
 pub use reader::Reader;
+pub use telling::{Layer, Told};
 pub use whole::read;
