@@ -1,5 +1,5 @@
 -- Words that a file gives one after the other. Assumes nothing.
-use Rattle.std.proofs.Common.{◌≡◌, ℕ, ◌+◌, List, [], ◌∷◌, ◌++◌, length, Some, None, Ok, Option, sym, refl, ap, ◌∙◌, subst, ⊎_elim, arith}
+use Rattle.std.proofs.Common.{◌≡◌, ℕ, ◌+◌, List, [], ◌∷◌, ◌++◌, length, Some, None, Ok, Option, sym, refl, ap, subst, ⊎_elim, arith}
 use Rattle.input.specs.FileWords.{Ended, Gave, NextGiven, WordGiven}
 use Rattle.input.specs.declared.file_words.FileWords.{FileWords}
 

@@ -1,5 +1,5 @@
 -- A file as it is read block by block. No contract can say which bytes an input gives.
-use Rattle.std.specs.Prelude.{◌≡◌, ℕ, ◌/◌, Bool, true, false, List, length, take, Ok, Err, vec_items, Result, ◌==◌}
+use Rattle.std.specs.Prelude.{◌≡◌, ℕ, ◌/◌, Bool, true, false, List, take, Ok, Err, vec_items, Result, ◌==◌}
 use Rattle.words.specs.Bytes.{number_at}
 use Rattle.input.specs.Limits.{block_bytes}
 use Rattle.input.specs.declared.blocks.Blocks.{Blocks}

@@ -1,4 +1,6 @@
 // The bytes of a month file from an input: block by block, or word by word.
+#![tactic(auto)]
+
 mod blocks;
 mod file_words;
 mod filling;

@@ -1,5 +1,5 @@
 -- What a question about a meter's missing hours answers, and that none about an assigned meter is refused.
-use Rattle.std.proofs.Common.{◌≡◌, ℕ, ◌+◌, ◌-◌, ◌<◌, Bool, true, cond, ◌&&◌, ltb, List, is_some, is_ok, Some, None, Ok, Err, Option, Result, refl, ap, ◌∙◌, subst, arith, MatchResult}
+use Rattle.std.proofs.Common.{◌≡◌, ℕ, ◌-◌, ◌<◌, true, cond, ltb, List, is_some, is_ok, Some, None, Ok, Err, Option, Result, refl, ap, ◌∙◌, subst, arith, MatchResult}
 use Rattle.std.specs.List.{ContainsAt as Has}
 use Rattle.std.proofs.lemmas.Bool.{and_from, cond-true, lt-ltb}
 use Rattle.std.proofs.lemmas.Bool.Decides.{nat_tests}

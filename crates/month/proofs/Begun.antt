@@ -1,23 +1,22 @@
 -- A newly opened month stands as its terms and no bookings say.
-use Rattle.std.proofs.Common.{◌≡◌, ℕ, ◌<◌, Bool, true, cond, ◌&&◌, eqb, List, [], ◌∷◌, ◌++◌, get_or, Some, None, Option, sym, refl, ap, ◌∙◌, subst, ⊎_elim, arith}
+use Rattle.std.proofs.Common.{◌≡◌, ℕ, Bool, true, cond, ◌&&◌, List, [], ◌∷◌, ◌++◌, get_or, Some, None, Option, sym, refl, ap, ◌∙◌, subst, ⊎_elim, arith}
 use Rattle.std.specs.Option.{option_to_list}
 use Rattle.std.specs.List.{list_all}
 use Rattle.std.proofs.lemmas.List.{append-nil, get_or-replicate}
 use Rattle.std.proofs.lemmas.Bool.{and_from, and_parts, cases_eq, ne_eqb}
-use Rattle.std.proofs.lemmas.Bool.Decides.{nat_tests}
 use Rattle.book.specs.Answers.{Opened}
 use Rattle.book.specs.Contents.{Contents as BookContents}
 use Rattle.book.specs.Marks.{is_marked, ones_of}
 use Rattle.plan.specs.Calls.{peak_fits, peak_precedes}
 use Rattle.plan.specs.Contents.{Contents as PlanContents}
-use Rattle.plan.specs.Limits.{amr, most_segments}
+use Rattle.plan.specs.Limits.{amr}
 use Rattle.plan.specs.Questions.{is_assigned, is_full, peak_of}
 use Rattle.plan.specs.WellMade.{ascending, is_well_made}
 use Rattle.plan.specs.declared.carried.CarriedPeak.{CarriedPeak}
 use Rattle.plan.proofs.Standing.{standing}
 use Rattle.weights.specs.Accepted.{joined_all}
 use Rattle.weights.specs.Limits.{meter_count}
-use Rattle.month.specs.Opening.{PeaksNoted, opening_refusal, peaks_light}
+use Rattle.month.specs.Opening.{PeaksNoted, peaks_light}
 use Rattle.month.specs.Stands.{BookStands, Stands, State}
 use Rattle.month.specs.Terms.{Terms, peaks_of}
 

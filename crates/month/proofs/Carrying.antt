@@ -1,5 +1,5 @@
 -- Carried peaks noted one after another in a newly opened book.
-use Rattle.std.proofs.Common.{◌≡◌, ℕ, ◌+◌, ◌<◌, ◌≤◌, Bool, true, false, cond, ◌&&◌, eqb, ltb, leb, List, [], ◌∷◌, ◌++◌, length, get_or, take, drop, set, Some, None, Option, sym, refl, ap, ◌∙◌, subst, ⊎_elim, arith}
+use Rattle.std.proofs.Common.{◌≡◌, ℕ, ◌+◌, ◌<◌, ◌≤◌, Bool, true, false, cond, eqb, leb, List, [], ◌∷◌, ◌++◌, length, get_or, take, drop, set, Some, None, Option, sym, refl, ap, ◌∙◌, subst, ⊎_elim, arith}
 use Rattle.std.specs.Option.{option_map, option_to_list}
 use Rattle.std.specs.List.{list_all}
 use Rattle.std.proofs.lemmas.List.{drop_more, get_or-replicate, get_or-set_other, get_or-set_same, take-append-drop, take_more}
@@ -15,7 +15,7 @@ use Rattle.plan.specs.declared.carried.CarriedPeak.{CarriedPeak}
 use Rattle.plan.proofs.Passing.{all_pass-at, all_pass-push, ascending_at}
 use Rattle.plan.proofs.Within.{PeakWithin, peak_within}
 use Rattle.weights.specs.Accepted.{joined_all}
-use Rattle.weights.specs.Answers.{note_refusal, zero_weights}
+use Rattle.weights.specs.Answers.{note_refusal}
 use Rattle.weights.specs.Limits.{greatest_amount, greatest_weight, meter_count}
 use Rattle.month.specs.Opening.{PeaksNoted, peaks_light, with_peak}
 

@@ -1,7 +1,7 @@
 -- What one more booking at the end of a list makes of a month.
-use Rattle.std.proofs.Common.{◌≡◌, ℕ, ◌+◌, ◌<◌, Bool, true, false, cond, ◌&&◌, ◌||◌, eqb, ltb, List, [], ◌∷◌, ◌++◌, map, is_some, Some, None, sum_by, count_by, filter, Option, sym, refl, ap, ◌∙◌, zero-add, arith}
+use Rattle.std.proofs.Common.{◌≡◌, ℕ, ◌+◌, Bool, true, false, cond, ◌||◌, ltb, List, [], ◌∷◌, ◌++◌, map, is_some, Some, None, sum_by, count_by, filter, Option, sym, refl, ap, ◌∙◌, zero-add, arith}
 use Rattle.std.proofs.lemmas.List.Elements.{filter-append}
-use Rattle.std.proofs.lemmas.List.{append_assoc, append-nil, map-append, map_push}
+use Rattle.std.proofs.lemmas.List.{append_assoc, map-append, map_push}
 use Rattle.std.proofs.lemmas.List.Sums.{fold_push, sum_by-append, sum_by_push}
 use Rattle.std.proofs.lemmas.Bool.Decides.{nat_tests}
 use Rattle.plan.specs.declared.booking.Booking.{Booking}
@@ -9,7 +9,6 @@ use Rattle.weights.specs.Accepted.{joined_all}
 use Rattle.month.specs.Bookings.{amounts_of, booked_of, booking_refusal, has_hour, is_at, is_of, is_of_hour, sum_of, weight_of}
 use Rattle.month.specs.Calls.{accepted, after_call}
 use Rattle.month.specs.Terms.{Terms, peaks_of}
-use Rattle.month.specs.declared.call.Call.{Call}
 use Rattle.month.specs.declared.call.Call.TheVariants.{Book}
 
 -- a weight joined with the amounts of two lists

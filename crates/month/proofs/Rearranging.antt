@@ -1,5 +1,5 @@
 -- Bookings in another order make the same of a month.
-use Rattle.std.proofs.Common.{◌≡◌, ℕ, ◌+◌, ◌<◌, Bool, true, false, cond, ltb, List, [], ◌∷◌, map, sum_by, filter, sym, refl, ap, ◌∙◌, subst, arith}
+use Rattle.std.proofs.Common.{◌≡◌, ℕ, ◌<◌, Bool, true, false, cond, ltb, List, ◌∷◌, sum_by, filter, sym, refl, ap, ◌∙◌, subst, arith}
 use mathlib.Core.List.Permᴰ
 use mathlib.Core.List.{Perm, Permᴰ}
 use mathlib.Core.Logic.{∥∥₁_elim, ∥∥₁_map}
@@ -10,7 +10,7 @@ use Rattle.plan.specs.declared.booking.Booking.{Booking}
 use Rattle.weights.specs.Accepted.{joined_all}
 use Rattle.weights.specs.Joining.{Swaps}
 use Rattle.weights.proofs.Joined.{joined_all-perm}
-use Rattle.month.specs.Bookings.{amounts_of, has_hour, is_at, is_of, is_of_hour, sum_of, weight_of}
+use Rattle.month.specs.Bookings.{amounts_of, is_at, is_of, is_of_hour, weight_of}
 use Rattle.month.specs.Laws.{Alike, Rearranges}
 use Rattle.month.specs.Stands.{Stands, State}
 use Rattle.month.specs.Terms.{Terms, peaks_of}

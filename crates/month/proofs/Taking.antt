@@ -1,17 +1,17 @@
 -- A booking keeps a month standing as its terms and accepted bookings say, and is answered as they say.
-use Rattle.std.proofs.Common.{◌≡◌, ℕ, ◌+◌, ◌<◌, ◌≤◌, Bool, true, false, cond, ◌&&◌, ◌||◌, eqb, ltb, leb, List, [], ◌∷◌, ◌++◌, length, get_or, set, Some, None, Option, sym, refl, ap, ◌∙◌, subst, ⊎_elim, arith}
+use Rattle.std.proofs.Common.{◌≡◌, ℕ, ◌+◌, ◌<◌, ◌≤◌, Bool, true, false, cond, ◌&&◌, ◌||◌, eqb, ltb, leb, List, [], ◌∷◌, ◌++◌, length, get_or, set, Some, None, Option, sym, ap, ◌∙◌, subst, ⊎_elim, arith}
 use Rattle.std.proofs.lemmas.List.{get_or-set_other, get_or-set_same}
 use Rattle.std.proofs.lemmas.Bool.{cases_eq, cond-false, cond-true}
 use Rattle.std.proofs.lemmas.Bool.Decides.{nat_tests}
 use Rattle.book.specs.Answers.{Entered, book_refusal, joined_with}
-use Rattle.book.specs.Contents.{Contents as BookContents, count_at, marked_at, sum_at}
+use Rattle.book.specs.Contents.{Contents as BookContents, marked_at}
 use Rattle.book.specs.Limits.{hour_count}
 use Rattle.plan.specs.Contents.{Contents as PlanContents}
 use Rattle.plan.specs.Limits.{most_meters, most_segments}
 use Rattle.plan.specs.declared.booking.Booking.{Booking}
 use Rattle.weights.specs.Answers.{note_refusal as source_refusal}
 use Rattle.weights.specs.Limits.{greatest_amount, greatest_weight, meter_count}
-use Rattle.month.specs.Bookings.{booked_of, booking_refusal, booking_within, has_hour, is_at, is_of, is_of_hour, own_refusal, refused_or, sum_of, weight_of}
+use Rattle.month.specs.Bookings.{booked_of, booking_refusal, booking_within, has_hour, is_of, own_refusal, refused_or, sum_of, weight_of}
 use Rattle.month.specs.Calls.{after_call}
 use Rattle.month.specs.Stands.{BookStands, Stands, State, Unchanged}
 use Rattle.month.specs.Terms.{Terms, by_segment, hours_of}

@@ -1,5 +1,5 @@
 -- A meter has no more accepted bookings than the month has hours.
-use Rattle.std.proofs.Common.{◌≡◌, ℕ, zero, suc, ◌+◌, ◌<◌, ◌≤◌, Bool, true, false, cond, not, ◌&&◌, ◌||◌, eqb, ltb, leb, List, [], ◌∷◌, ◌++◌, map, is_some, Some, None, fold, count_by, Option, sym, refl, ap, ◌∙◌, subst, ⊎_elim, add-zero, zero-add, arith}
+use Rattle.std.proofs.Common.{◌≡◌, ℕ, zero, suc, ◌+◌, ◌<◌, ◌≤◌, Bool, true, false, cond, ◌&&◌, ◌||◌, eqb, ltb, leb, List, [], ◌∷◌, ◌++◌, map, is_some, Some, None, count_by, Option, sym, refl, ap, ◌∙◌, subst, ⊎_elim, zero-add, arith}
 use Rattle.std.specs.List.{range_with_len}
 use Rattle.std.proofs.lemmas.List.Sums.{sum_by-cons}
 use Rattle.std.proofs.lemmas.Bool.{and_parts, cases_Bool, eqb-true}
@@ -7,7 +7,7 @@ use Rattle.std.proofs.lemmas.Bool.Decides.{nat_tests}
 use Rattle.book.proofs.Counting.{below_not}
 use Rattle.plan.specs.Limits.{greatest_amount, most_meters, most_segments}
 use Rattle.plan.specs.declared.booking.Booking.{Booking}
-use Rattle.month.specs.Bookings.{booked_of, booking_refusal, booking_within, has_hour, is_assigned, is_of, is_of_hour}
+use Rattle.month.specs.Bookings.{booked_of, booking_refusal, booking_within, has_hour, is_assigned, is_of}
 use Rattle.month.specs.Calls.{accepted, accepted_from, after_call}
 use Rattle.month.specs.Terms.{Terms, hours_of}
 use Rattle.month.specs.declared.call.Call.{Call}

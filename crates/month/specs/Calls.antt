@@ -1,5 +1,5 @@
 -- Calls on an open month, in any order: which bookings they accept, and what they answer.
-use Rattle.std.specs.Prelude.{◌≡◌, ℕ, ◌+◌, cond, List, [], ◌∷◌, ◌++◌, is_some, Some, None, Ok, Err, fold, Option, Result}
+use Rattle.std.specs.Prelude.{◌≡◌, ℕ, ◌+◌, cond, List, [], ◌∷◌, ◌++◌, is_some, Some, None, Ok, Err, fold, Result}
 use Rattle.plan.specs.declared.booking.Booking.{Booking}
 use Rattle.month.specs.Bookings.{ask_refusal, booked_of, booking_refusal, missing_of}
 use Rattle.month.specs.Faults.{number_of}

@@ -17,11 +17,13 @@ use Rattle.month.specs.declared.opening.Unopened.{Unopened}
 use Rattle.month.specs.declared.sources.Sources.{Sources}
 
 -- what a book holds
-abbrev pub book_contents : {S : Type 0} → Source S → Book S → BookContents
+abbrev pub book_contents : {S : Type 0} (source : Source S) → Book S source → BookContents
 book_contents source book = contents_of book.tables (source.weights book.source)
 
 -- the sources that books hold
-abbrev pub held_sources : {A B C D : Type 0} → Four A B C D → Sources A B C D
+abbrev pub held_sources : {A B C D : Type 0} {a : Source A} {b : Source B} {c : Source C} {d : Source D} →
+    Four A B C D a b c d →
+    Sources A B C D
 held_sources four = record {
   amr = four.amr.source;
   s30 = four.s30.source;
@@ -60,17 +62,17 @@ module _ {A B C D : Type 0} (a : Source A) (b : Source B) (c : Source C) (d : So
     pub sources_left : SourcesLeft unopened.fault sources unopened.sources
 
   -- the joining of each source that books hold
-  abbrev pub book_joins : Four A B C D → ℕ → ℕ → ℕ → ℕ
+  abbrev pub book_joins : Four A B C D a b c d → ℕ → ℕ → ℕ → ℕ
   book_joins four = source_joins (held_sources four)
 
   -- what each segment's book holds
-  abbrev pub books_of : Four A B C D → ℕ → BookContents
+  abbrev pub books_of : Four A B C D a b c d → ℕ → BookContents
   books_of four =
       by_segment (book_contents a four.amr) (book_contents b four.s30) (book_contents c four.mrc)
       (book_contents d four.eav)
 
   -- what a month holds
-  abbrev pub state_of : Month A B C D → State
+  abbrev pub state_of : Month A B C D a b c d → State
   state_of month = record {
     contents = plan_contents month.plan;
     joins = book_joins month.books;

@@ -1,4 +1,5 @@
 //! An open month: the books of the four segments over any weight sources, booking and questions.
+#![tactic(auto)]
 
 mod call;
 mod fault;

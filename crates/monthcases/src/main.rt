@@ -1,4 +1,6 @@
 // Openings, bookings, questions and weights at their limits, and what each answers.
+#![tactic(auto)]
+
 mod plans;
 mod steep;
 

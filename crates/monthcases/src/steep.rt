@@ -1,7 +1,7 @@
 // A weight source that grows so fast that a few amounts pass the greatest weight.
 ghost use Rattle.std.specs.Prelude.{◌≡◌, ◌+◌, ◌*◌, length};
 ghost use Rattle.weights.specs.Limits.{meter_count};
-ghost use Rattle.std.proofs.Common.{rules, arith};
+ghost use Rattle.std.proofs.Common.{rules};
 
 use weights::{MAX_AMOUNT, MAX_WEIGHT, METERS, WeightFault, WeightSource};
 
@@ -25,13 +25,13 @@ impl WeightSource for Steep {
 
     ghost joining = { λ _ weight amount. weight + 1000 * amount };
 
-    ghost sized = { first_of (Prim.search rules, Prim.grind (arith, Self.row.coded.inj)) };
+    ghost sized = { Prim.search rules };
 
-    ghost swaps = { first_of (Prim.search rules, Prim.grind (arith, Self.row.coded.inj)) };
+    ghost swaps = { Prim.search rules };
 
-    ghost keeps = { first_of (Prim.search rules, Prim.grind (arith, Self.row.coded.inj)) };
+    ghost keeps = { Prim.search rules };
 
-    ghost covers = { first_of (Prim.search rules, Prim.grind (arith, Self.row.coded.inj)) };
+    ghost covers = { Prim.search rules };
 
     fn reset(&mut self) {
         self.weights = [0; METERS];

@@ -3,9 +3,8 @@ use Rattle.std.proofs.Common.{◌≡◌, ℕ, ◌+◌, ◌<◌, ◌≤◌, Bool,
 use Rattle.std.proofs.lemmas.List.{append_assoc, at_drop_more}
 use Rattle.std.proofs.lemmas.Bool.{true≢false}
 use Rattle.plan.specs.declared.booking.Booking.{Booking}
-use Rattle.words.specs.declared.spot.Spot.{Spot}
 use Rattle.words.specs.declared.word.Word.TheVariants.{Amount, Select}
-use Rattle.monthfile.specs.File.{spot_of, one_on, comes_next, select_words, booking_words}
+use Rattle.monthfile.specs.File.{Spot, spot_of, one_on, comes_next, select_words, booking_words}
 use Rattle.monthwriter.specs.Placing.{RoomFor, WordsPut, words_of_booking}
 use Rattle.monthwriter.proofs.Putting.{put_then}
 
@@ -30,7 +29,7 @@ booking_size false told b n e is = (sym (is ∙ ap (λ t. cond t 1 2) e), omega 
 -- a select and then the amount
 pub select_put : (next : Bool) (b : Booking) {start : ℕ} {out : List ℕ} {at : ℕ} {middle : List ℕ} {end : ℕ} {after : List ℕ} → next ≡ false
     → RoomFor start (select_words next (spot_of b) ++ (Amount b.amount ∷ [])) out
-    → WordsPut start (Select (spot_of b) ∷ []) out at middle → WordsPut at (Amount b.amount ∷ []) middle end after
+    → WordsPut start (Select b.segment b.meter b.hour ∷ []) out at middle → WordsPut at (Amount b.amount ∷ []) middle end after
     → WordsPut start (select_words next (spot_of b) ++ (Amount b.amount ∷ [])) out end after
 select_put true b e room put more = absurd (true≢false e)
 select_put false b e room put more = put_then room put more

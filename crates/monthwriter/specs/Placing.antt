@@ -6,10 +6,9 @@ use Rattle.plan.specs.declared.booking.Booking.{Booking}
 use Rattle.plan.specs.declared.carried.CarriedPeak.{CarriedPeak}
 use Rattle.plan.specs.declared.meter.Meter.{Meter as PlanMeter}
 use Rattle.words.specs.Layout.{FieldsFit}
-use Rattle.words.specs.declared.spot.Spot.{Spot}
 use Rattle.words.specs.declared.word.Word.{Word}
 use Rattle.words.specs.declared.word.Word.TheVariants.{Meter, Amount, Carried}
-use Rattle.monthfile.specs.File.{spot_of, one_on, comes_next, select_words, bytes_of}
+use Rattle.monthfile.specs.File.{Spot, spot_of, one_on, comes_next, select_words, bytes_of}
 
 -- the bytes of a word
 abbrev pub word_bytes : ℕ

@@ -5,7 +5,7 @@ ghost use Rattle.monthwriter.specs.Placing.{RoomFor, WordsPut, next_after, words
 
 use crate::placing::put_word;
 use plan::Booking;
-use words::{Spot, Word};
+use words::Word;
 
 pub(crate) fn put_bookings(bookings: &[Booking], out: &mut [u8], mut at: usize) -> usize
     requires { RoomFor at (booking_words None bookings.now) out.old }
@@ -30,11 +30,11 @@ fn put_booking(last: Option<Booking>, booking: &Booking, out: &mut [u8], at: usi
     if comes_next(last, booking) {
         return put_word(amount, out, at);
     }
-    let select = Word::Select(Spot {
+    let select = Word::Select {
         segment: booking.segment,
         meter: booking.meter,
         hour: booking.hour,
-    });
+    };
     let at = put_word(select, out, at);
     put_word(amount, out, at)
 }

@@ -48,8 +48,8 @@ pub(crate) fn put_meters_and_peaks(plan: &Plan, out: &mut [u8], at: usize) -> us
 }
 
 fn put_entries<E: PlanEntry>(entries: &[E], out: &mut [u8], mut at: usize) -> usize
-    requires { RoomFor at (map in_file entries.now) out.old }
-    ensures { WordsPut at (map in_file entries.now) out.old result out.new }
+    requires { RoomFor at (map E.in_file entries.now) out.old }
+    ensures { WordsPut at (map E.in_file entries.now) out.old result out.new }
 {
     for item in entries {
         at = put_word(item.word(), out, at);

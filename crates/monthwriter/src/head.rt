@@ -12,7 +12,7 @@ ghost use Rattle.monthwriter.specs.Placing.{RoomFor, WordsPut};
 use crate::placing::put_word;
 use plan::{MOST_SEGMENTS, Plan};
 use tariff::Terms;
-use words::{SegmentWord, Word};
+use words::Word;
 
 pub(crate) fn put_period(plan: &Plan, out: &mut [u8], at: usize) -> usize
     requires full { is_full (contents plan.now) ≡ true }
@@ -45,11 +45,11 @@ fn put_segment(segment: u32, terms: &Terms, out: &mut [u8], at: usize) -> usize
     requires { RoomFor at (call_words (AddSegment segment (segment_numbers terms.now))) out.old }
     ensures { WordsPut at (call_words (AddSegment segment (segment_numbers terms.now))) out.old result out.new }
 {
-    let first = Word::Segment(SegmentWord {
+    let first = Word::Segment {
         segment,
         service: terms.service().number(),
         tariff: terms.tariff(),
-    });
+    };
     let second = Word::Factor {
         segment,
         factor: terms.factor(),

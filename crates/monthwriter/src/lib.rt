@@ -1,4 +1,6 @@
 // Writes the month file of a plan and its bookings into memory that the caller lends.
+#![tactic(auto)]
+
 mod bookings;
 mod checks;
 mod entries;

@@ -60,7 +60,7 @@ fn worked_file(rt: HostRuntime) {
         let number = window.number();
         assert_eq!(rt; window.next(), Some((number, word)));
     }
-    assert_eq!(rt; beyond, &[0xAA, 0xAA]);
+    assert_eq!(rt; beyond, [0xAA, 0xAA].as_slice());
 }
 
 #[test]

@@ -1,5 +1,5 @@
 -- Each turn notes one peak, of a meter whose weight is still zero.
-use Rattle.std.proofs.Common.{◌≡◌, ℕ, true, List, get_or, take, Some, None, Option, sym, refl, ap, ◌∙◌, subst}
+use Rattle.std.proofs.Common.{◌≡◌, ℕ, true, List, get_or, Some, None, Option, refl, ap, ◌∙◌, subst}
 use Rattle.std.proofs.lemmas.List.{take_all}
 use Rattle.std.proofs.lemmas.Result.{err_from_is_err_and}
 use Rattle.book.specs.Answers.{joined_with}

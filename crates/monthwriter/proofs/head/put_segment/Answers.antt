@@ -9,8 +9,7 @@ pub returns : goal.returns
 returns c =
     let segment = c.args.segment in
     let terms = c.args.terms.now in
-    let first : Segment (record { segment = segment; service = c.number.result; tariff = c.tariff.result })
-    ≡ Segment (record { segment = segment; service = service_number terms.service; tariff = terms.tariff }) = cc in
+    let first : Segment segment c.number.result c.tariff.result ≡ Segment segment (service_number terms.service) terms.tariff = cc in
     let second : Factor segment c.factor.result ≡ Factor segment terms.factor = cc in
     put_then c.requires
     (subst (λ w. WordsPut c.args.at (w ∷ []) c.args.out.now c.put_word-at.result c.put_word-at.new.out) first c.put_word-at.ensures)

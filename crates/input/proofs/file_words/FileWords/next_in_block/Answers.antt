@@ -1,4 +1,4 @@
-use Rattle.std.proofs.Common.{◌≡◌, sym, refl, ap, ◌∙◌, arith}
+use Rattle.std.proofs.Common.{sym, refl, ap, ◌∙◌, arith}
 use Rattle.words.specs.Bytes.{words_of}
 use Rattle.words.proofs.Numbering.{none_left, shown}
 use Rattle.input.specs.Blocks.{block_of}

@@ -6,7 +6,7 @@ use Rattle.plan.specs.Limits.{amr}
 use Rattle.plan.specs.OfPlan.{contents}
 use Rattle.plan.specs.WellMade.{ascending}
 use Rattle.plan.specs.declared.carried.CarriedPeak.{CarriedPeak}
-use Rattle.month.specs.OfMonth.{book_joins, books_of, held_sources, state_of, terms_of}
+use Rattle.month.specs.OfMonth.{books_of, held_sources, state_of, terms_of}
 use Rattle.month.specs.Opening.{PeaksNoted, peaks_light}
 use Rattle.month.proofs.Begun.{begun, peaks_ascend, peaks_fit}
 use Rattle.month.proofs.month.Month.with_peaks.Goals as goal

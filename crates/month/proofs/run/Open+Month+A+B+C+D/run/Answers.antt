@@ -1,5 +1,5 @@
 -- Each turn answers one call more; the sources' joinings swap, so the order of bookings makes no difference.
-use Rattle.std.proofs.Common.{◌≡◌, ℕ, ◌+◌, List, [], ◌∷◌, ◌++◌, take, vec_items, sym, refl, ◌∙◌, subst, arith}
+use Rattle.std.proofs.Common.{ℕ, ◌+◌, List, take, vec_items, sym, refl, subst, arith}
 use Rattle.std.proofs.lemmas.List.{take_all}
 use Rattle.std.proofs.lemmas.Result.{err_from_is_err_and}
 use Rattle.weights.specs.Joining.{Swaps}
@@ -17,7 +17,9 @@ use Rattle.month.proofs.run.Open+Month+A+B+C+D.run.Given as given
 use Rattle.month.proofs.run.Open+Month+A+B+C+D.run.Goals as goal
 
 -- each segment's joining swaps
-swaps_each : (g : given.Over) (four : Four g.row.A.Denot g.row.B.Denot g.row.C.Denot g.row.D.Denot) (segment : ℕ) →
+swaps_each : (g : given.Over)
+    (four : Four g.row.A.Denot g.row.B.Denot g.row.C.Denot g.row.D.Denot g.A.WeightSource g.B.WeightSource g.C.WeightSource g.D.WeightSource)
+    (segment : ℕ) →
     Swaps (book_joins g.A.WeightSource g.B.WeightSource g.C.WeightSource g.D.WeightSource four segment)
 swaps_each g four segment =
     by_segment-each Swaps (g.A.WeightSource.joining four.amr.source) (g.B.WeightSource.joining four.s30.source)
