@@ -29,7 +29,7 @@ fn plan_record(phase: Phase, word: Word) -> Option<Record>
             station,
         })),
         Word::Carried { meter, amount } => Some(Record::Carried(CarriedPeak { meter, amount })),
-        Word::Segment(_) | Word::Select(_) | Word::Amount { .. } => None,
+        Word::Segment { .. } | Word::Select { .. } | Word::Amount { .. } => None,
     }
 }
 
@@ -38,10 +38,14 @@ fn terms_record(phase: Phase, factor: u32) -> Option<Record>
     ensures { result ≡ option_map plan_record (segment_call phase factor) }
 {
     match phase {
-        Phase::Terms(given) => Some(Record::Terms {
-            segment: given.segment,
-            service: given.service,
-            tariff: given.tariff,
+        Phase::Terms {
+            segment,
+            service,
+            tariff,
+        } => Some(Record::Terms {
+            segment,
+            service,
+            tariff,
             factor,
         }),
         _ => None,

@@ -1,4 +1,6 @@
 // The lines that programs print: those of a month file's records, of a fault and of a meter's missing hours.
+#![tactic(auto)]
+
 mod fault_line;
 mod gap_line;
 mod record;

@@ -36,6 +36,12 @@ file_and_reading = record {
 none≢some : {X : Type 0} {x : X} → None ≡ Some x → ⊥
 none≢some e = let z : ◌≡◌ {A = ℕ} 0 1 = cc in omega arith
 
+-- a fault that is told unless both hold
+pub may_end_parts : (a b : Bool) (t : Told) → cond (a && b) None (Some t) ≡ None → (a ≡ true) × (b ≡ true)
+may_end_parts true true t e = (refl, refl)
+may_end_parts true false t e = absurd (none≢some (sym e))
+may_end_parts false b t e = absurd (none≢some (sym e))
+
 -- words that stop the reading stop it whatever follows
 stops : (first second : List (Option Word)) (before : Standing) (place : ℕ) (t : Told) → (reading before place first).fault ≡ Some t
     → reading before place (first ++ second) ≡ reading before place first
@@ -85,7 +91,7 @@ fit_decoded : (ws : List Word) → AllByRecursion FieldsFit ws → AllDecoded (m
 fit_decoded [] fit = tt
 fit_decoded (w ∷ ws) fit = ((fit.0, refl), fit_decoded ws fit.1)
 
-decoded-bits : (ns : List ℕ) (ws : List Word) → AllDecoded ns (map Some ws) → ns ≡ map encoded ws
+pub decoded-bits : (ns : List ℕ) (ws : List Word) → AllDecoded ns (map Some ws) → ns ≡ map encoded ws
 decoded-bits [] [] is = refl
 decoded-bits [] (w ∷ ws) is = absurd is
 decoded-bits (n ∷ ns) [] is = absurd is
@@ -117,13 +123,13 @@ module _ (bytes : List ℕ) where
         ap words_of spells ∙ words_spelled (map encoded ws) (All-map (λ n. n < 2 ^ 32) encoded ws (All-weaker FieldsFit (λ w. encoded w < 2 ^ 32) encoded-below ws fit)) in
         subst (λ ns. AllDecoded ns (map Some ws)) (sym bits) (fit_decoded ws fit)
 
-    over : left_over bytes ≡ []
+    pub over : left_over bytes ≡ []
     over = ap left_over spells ∙ none_over (map encoded ws)
 
-    reads : (words : List (Option Word)) → AllDecoded (words_of bytes) words → Gave plan bookings (reading beginning 0 words)
-    reads words decoded =
-        subst (λ x. Gave plan bookings (reading beginning 0 x)) (all_decoded_once (words_of bytes) (map Some ws) words has_words decoded)
-        (file_and_reading.reads_back plan bookings f 0)
+    pub reads : (words : List (Option Word)) → AllDecoded (words_of bytes) words → (place : ℕ) → Gave plan bookings (reading beginning place words)
+    reads words decoded place =
+        subst (λ x. Gave plan bookings (reading beginning place x)) (all_decoded_once (words_of bytes) (map Some ws) words has_words decoded)
+        (file_and_reading.reads_back plan bookings f place)
 
   -- stopped at a word
   module _ (fault : ReadFault) (later : List Booking) (end : Standing) (block : BlockRead beginning 0 (words_of bytes) [] (Err fault) later end) where
@@ -137,7 +143,7 @@ module _ (bytes : List ℕ) where
 
     pub stopped_back : (plan : Contents) (bookings : List Booking) → Fileable plan bookings → bytes ≡ file_of plan bookings → told fault ≡ None
     stopped_back plan bookings f is =
-        sym block.left.faulty ∙ front_clean block.words others (reads plan bookings f is (block.words ++ others) all_words).no_fault
+        sym block.left.faulty ∙ front_clean block.words others (reads plan bookings f is (block.words ++ others) all_words 0).no_fault
 
     pub stopped_tells : {X : Type 0} → TellsFirst {X = X} bytes (Err fault)
     stopped_tells = record {
@@ -182,7 +188,7 @@ module _ (bytes : List ℕ) where
     pub ended_back : (fault : ReadFault) → told fault ≡ judged_end
         → (plan : Contents) (bs : List Booking) → Fileable plan bs → bytes ≡ file_of plan bs → told fault ≡ None
     ended_back fault tells plan bs f is =
-        let gave = reads plan bs f is block.words decoded-all in
+        let gave = reads plan bs f is block.words decoded-all 0 in
         tells ∙ end_is
         ∙ ap (λ o. or_else o (end_fault r.standing (length block.words) (length (left_over bytes)))) gave.no_fault
         ∙ ap (λ bs. end_fault r.standing (length block.words) (length bs)) (over plan bs f is)
@@ -192,11 +198,6 @@ module _ (bytes : List ℕ) where
     module _ (plan : Contents) (planned : plan ≡ end.plan) (fine : judged_end ≡ None) where
       pub taken_tells : {X : Type 0} (x : X) → TellsFirst bytes (Ok x)
       taken_tells x = record { words = block.words; decoded = decoded-all; tells = sym end_is ∙ fine }
-
-      may_end_parts : (a b : Bool) (t : Told) → cond (a && b) None (Some t) ≡ None → (a ≡ true) × (b ≡ true)
-      may_end_parts true true t e = (refl, refl)
-      may_end_parts true false t e = absurd (none≢some (sym e))
-      may_end_parts false b t e = absurd (none≢some (sym e))
 
       ends : (may_end end.phase ≡ true) × (eqb (length bytes % 4) 0 ≡ true)
       ends = may_end_parts (may_end end.phase) (eqb (length bytes % 4) 0) (record { layer = FILE; number = 11; place = length bytes / 4 }) fine
@@ -211,7 +212,7 @@ module _ (bytes : List ℕ) where
 
       pub taken_back : (p : Contents) (bs : List Booking) → Fileable p bs → bytes ≡ file_of p bs → (plan ≡ p) × (bookings ≡ bs)
       taken_back p bs f is =
-          let also = reads p bs f is block.words decoded-all in
+          let also = reads p bs f is block.words decoded-all 0 in
           (sym gave.planned ∙ also.planned, sym gave.booked ∙ also.booked)
 
       pub taken_file : AllByRecursion (λ b. b < 2 ^ 8) bytes → bytes ≡ file_of plan bookings

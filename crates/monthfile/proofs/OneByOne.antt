@@ -1,8 +1,8 @@
 -- Reading word by word. Assumes nothing.
-use Rattle.std.proofs.Common.{◌≡◌, ℕ, ◌+◌, ◌≤◌, true, false, List, [], ◌∷◌, ◌++◌, map, length, get_or, Some, None, Ok, Err, Option, sym, refl, ap, ◌∙◌, subst, append_assoc, arith, length-append}
+use Rattle.std.proofs.Common.{◌≡◌, ℕ, ◌+◌, ◌≤◌, true, false, List, [], ◌∷◌, ◌++◌, length, Some, None, Ok, Err, Option, sym, refl, ap, ◌∙◌, subst, append_assoc, arith, length-append}
 use Rattle.std.proofs.lemmas.List.{append-nil}
 use Rattle.plan.specs.declared.booking.Booking.{Booking}
-use Rattle.words.specs.Bytes.{last_number, number_at, numbered}
+use Rattle.words.specs.Bytes.{last_number, number_at}
 use Rattle.words.specs.declared.word.Word.{Word}
 use Rattle.monthfile.specs.declared.brought.Brought.{Brought}
 use Rattle.monthfile.specs.declared.brought.Brought.TheVariants.{Nothing, Opening, Offtake}
@@ -11,7 +11,7 @@ use Rattle.monthfile.specs.Faults.{Told, told, blamed, Stepped}
 use Rattle.monthfile.specs.Judging.{Standing, Verdict, Faulty, Taken, judge}
 use Rattle.monthfile.specs.Reading.{Reading, reading, gone_on, preceded, ended, booking_of, followed, BlockByBlock, ReadTo, BlockRead, AllDecoded}
 
-some≢none : {X : Type 0} {x : X} → Some x ≡ None → ⊥
+pub some≢none : {X : Type 0} {x : X} → Some x ≡ None → ⊥
 some≢none e = let z : ◌≡◌ {A = ℕ} 0 1 = cc in omega arith
 
 number_next : (place n : ℕ) → number_at (number_at place 1) n ≡ number_at place (1 + n)
@@ -40,7 +40,7 @@ block_by_block before place (Some word ∷ first) second small clean =
         (sym (append_assoc (booking_of brought) r.bookings (s (number_at (number_at place 1) (length first))).bookings))
         ∙ ap (λ n. followed (preceded brought r) (s n)) k
 
-ok≢err : false ≡ true → ⊥
+pub ok≢err : false ≡ true → ⊥
 ok≢err e = let z : ◌≡◌ {A = ℕ} 0 1 = cc in omega arith
 
 -- stopped for want of memory before the first word
@@ -92,7 +92,7 @@ faulty_read before place bits bs fault after (Some word, decoded, (tells, same))
         (nothing_read before place (bits ∷ []) bs fault (tells ∙ ap (blamed place) e))
 
 -- a word that is taken, with its booking at the end of the list
-pub taken_read : (before : Standing) (place bits : ℕ) (bs more : List Booking) (brought : Brought) (after : Standing) → Stepped before place bits (Ok brought) after
+unfoldable pub taken_read : (before : Standing) (place bits : ℕ) (bs more : List Booking) (brought : Brought) (after : Standing) → Stepped before place bits (Ok brought) after
     → more ≡ bs ++ booking_of brought → BlockRead before place (bits ∷ []) bs (Ok tt) more after
 taken_read before place bits bs more brought after (None, decoded, never) pushed = absurd never
 taken_read before place bits bs more brought after (Some word, decoded, is) pushed = record {
@@ -126,7 +126,7 @@ pub record SoFar (before : Standing) (place : ℕ) (bits : List ℕ) (earlier : 
   pub left : ReadTo before place words earlier None bookings after
   pub counted : number ≡ number_at place (length words)
 
-pub none_yet : (before : Standing) (place : ℕ) (bits : List ℕ) (earlier : List Booking) → place ≤ last_number
+unfoldable pub none_yet : (before : Standing) (place : ℕ) (bits : List ℕ) (earlier : List Booking) → place ≤ last_number
     → SoFar before place bits earlier bits place earlier before
 none_yet before place bits earlier small = record {
   front = [];
@@ -168,23 +168,9 @@ length-decoded [] (w ∷ ws) h = absurd h
 length-decoded (n ∷ ns) [] h = absurd h
 length-decoded (n ∷ ns) (w ∷ ws) h = omega (arith, length-decoded ns ws h.1)
 
-unnumbered : (n : ℕ) (ws : List ℕ) → map (λ (e : ℕ × ℕ). e.1) (numbered n ws) ≡ ws
-unnumbered n [] = refl
-unnumbered n (w ∷ ws) = ap (λ rest. w ∷ rest) (unnumbered (number_at n 1) ws)
-
-pub none_left : (n : ℕ) (ws : List ℕ) → numbered n ws ≡ [] → ws ≡ []
-none_left n ws e = sym (unnumbered n ws) ∙ ap (map (λ (x : ℕ × ℕ). x.1)) e
-
--- the word that a window shows, and those that it has left
-pub shown : (n m : ℕ) (ws vs : List ℕ) (place bits : ℕ) → numbered n ws ≡ (place, bits) ∷ numbered m vs → (ws ≡ bits ∷ vs) × (place ≡ n)
-shown n m ws vs place bits e =
-    let split : ws ≡ bits ∷ vs = sym (unnumbered n ws) ∙ ap (map (λ (x : ℕ × ℕ). x.1)) e ∙ ap (λ rest. bits ∷ rest) (unnumbered m vs) in
-    let first : List (ℕ × ℕ) → ℕ = λ l. (get_or l 0 (place, bits)).0 in
-    (split, ap first (sym e) ∙ ap (λ l. first (numbered n l)) split)
-
 module _ (before : Standing) (place : ℕ) (all : List ℕ) (earlier : List Booking) (small : place ≤ last_number) where
   -- one word more
-  pub one_more : (bits : ℕ) (others : List ℕ) (number next : ℕ) (bookings later : List Booking) (after end : Standing)
+  unfoldable pub one_more : (bits : ℕ) (others : List ℕ) (number next : ℕ) (bookings later : List Booking) (after end : Standing)
       → SoFar before place all earlier (bits ∷ others) number bookings after → BlockRead after number (bits ∷ []) bookings (Ok tt) later end
       → next ≡ number_at number 1 → SoFar before place all earlier others next later end
   one_more bits others number next bookings later after end so_far one counts =
@@ -202,7 +188,7 @@ module _ (before : Standing) (place : ℕ) (all : List ℕ) (earlier : List Book
       }
 
   -- stopped at this word
-  pub stopped : (bits : ℕ) (others : List ℕ) (number : ℕ) (bookings later : List Booking) (after end : Standing) (fault : ReadFault)
+  unfoldable pub stopped : (bits : ℕ) (others : List ℕ) (number : ℕ) (bookings later : List Booking) (after end : Standing) (fault : ReadFault)
       → SoFar before place all earlier (bits ∷ others) number bookings after → BlockRead after number (bits ∷ []) bookings (Err fault) later end
       → BlockRead before place all earlier (Err fault) later end
   stopped bits others number bookings later after end fault so_far one = record {
@@ -219,7 +205,7 @@ module _ (before : Standing) (place : ℕ) (all : List ℕ) (earlier : List Book
   }
 
   -- read to the end
-  pub all_read : (number : ℕ) (others : List ℕ) (bookings : List Booking) (after : Standing) → SoFar before place all earlier others number bookings after → others ≡ []
+  unfoldable pub all_read : (number : ℕ) (others : List ℕ) (bookings : List Booking) (after : Standing) → SoFar before place all earlier others number bookings after → others ≡ []
       → BlockRead before place all earlier (Ok tt) bookings after
   all_read number others bookings after so_far none = record {
     front = so_far.front;

@@ -3,7 +3,8 @@ use Rattle.std.proofs.lemmas.Result.{err_from_is_err_and}
 use Rattle.words.specs.Bytes.{last_number, words_of}
 use Rattle.monthfile.specs.Reading.{BlockRead}
 use Rattle.monthfile.specs.View.{standing_of}
-use Rattle.monthfile.proofs.OneByOne.{SoFar, block_by_block, shown, one_more, stopped, all_read, none_left}
+use Rattle.words.proofs.Numbering.{none_left, shown}
+use Rattle.monthfile.proofs.OneByOne.{SoFar, block_by_block, one_more, stopped, all_read}
 use Rattle.monthfile.proofs.reader.Reader.read_block.Goals as goal
 
 pub loop-place-preserved : goal.loop-place-preserved
