@@ -1,4 +1,6 @@
 // Damaged month files, and what reading each answers.
+#![tactic(auto)]
+
 use anyhow::Context;
 use lines::FaultLine;
 use monthfile::read;

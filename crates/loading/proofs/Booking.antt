@@ -24,7 +24,7 @@ use Rattle.monthfile.specs.declared.phase.Phase.{Phase}
 use Rattle.monthfile.specs.declared.telling.Layer.TheVariants.{Book as BOOK}
 use Rattle.monthfile.specs.declared.telling.Told.{Told}
 use Rattle.loading.specs.Layers.{brought_fault, has_opened, reading_of, terms_by, verdict_fault, word_fault}
-use Rattle.loading.specs.Stages.{Books, BooksAt, WordBooked}
+use Rattle.loading.specs.Stages.{BooksAt, WordBooked}
 use Rattle.loading.specs.declared.fault.LoadFault.TheVariants.{Booking, Reading}
 use Rattle.loading.proofs.Layered.{none_refused_push, pushed}
 use Rattle.loading.proofs.Planning.{some_is, tells_word}

@@ -1,6 +1,6 @@
 -- A whole file: its plan's words, the opening, and its bookings' words. Assumes nothing.
-use Rattle.std.proofs.Common.{◌≡◌, ℕ, ◌+◌, true, false, cond, eqb, List, [], ◌∷◌, ◌++◌, map, length, Some, None, Ok, Err, Option, Result, sym, refl, ap, ◌∙◌, subst, append_assoc, arith, length-append}
-use Rattle.std.specs.Option.{option_map}
+use Rattle.std.proofs.Common.{◌≡◌, ℕ, true, eqb, List, [], ◌∷◌, ◌++◌, Some, None, Ok, Err, Option, Result, sym, refl, ap, ◌∙◌, subst, append_assoc, arith, length-append}
+use Rattle.std.specs.Option.{option_map, option_or}
 use Rattle.std.proofs.lemmas.List.{append-nil}
 use Rattle.std.proofs.lemmas.Bool.{cond-false, eqb-true}
 use Rattle.plan.specs.Contents.{Contents}
@@ -8,7 +8,6 @@ use Rattle.plan.specs.OfPlan.{contents}
 use Rattle.plan.specs.declared.booking.Booking.{Booking}
 use Rattle.plan.specs.declared.plan.Plan.{Plan}
 use Rattle.weights.specs.declared.source.WeightSource.{Ghosts as Source}
-use Rattle.words.specs.Layout.{encoded}
 use Rattle.words.specs.declared.word.Word.{Word}
 use Rattle.input.specs.FileWords.{Ended, Gave, left_over}
 use Rattle.input.specs.declared.file_words.FileWords.{FileWords}
@@ -24,23 +23,21 @@ use Rattle.month.specs.declared.month.Month.{Month}
 use Rattle.month.specs.declared.open.Open.{Open}
 use Rattle.month.specs.declared.sources.Sources.{Sources}
 use Rattle.monthfile.specs.File.{file_words}
-use Rattle.monthfile.specs.Judging.{Standing, Taken, judge}
+use Rattle.monthfile.specs.Judging.{FILE, Standing, Taken, judge}
 use Rattle.monthfile.specs.Reading.{AllDecoded, end_fault, may_end}
-use Rattle.monthfile.specs.Whole.{or_else}
+use Rattle.monthfile.specs.Telling.{as_told}
 use Rattle.monthfile.specs.declared.brought.Brought.TheVariants.{Opening}
-use Rattle.monthfile.specs.declared.phase.Phase.{Phase}
 use Rattle.monthfile.specs.declared.telling.Layer.{Layer}
-use Rattle.monthfile.specs.declared.telling.Layer.TheVariants.{File as FILE, Plan as PLAN}
+use Rattle.monthfile.specs.declared.telling.Layer.TheVariants.{Plan as PLAN}
 use Rattle.monthfile.specs.declared.telling.Told.{Told}
 use Rattle.monthfile.proofs.Backward.{is_file}
 use Rattle.monthfile.proofs.Entire.{decoded-bits, may_end_parts}
 use Rattle.monthfile.proofs.OneByOne.{decoded-append}
 use Rattle.loading.specs.Faults.{told}
-use Rattle.loading.specs.Layers.{brought_fault, end_tells, has_opened, opening_tells, reading_of, terms_by, verdict_fault, word_fault}
+use Rattle.loading.specs.Layers.{brought_fault, has_opened, opening_tells, reading_of, terms_by, verdict_fault, word_fault}
 use Rattle.loading.specs.Loading.{LeftBy, Loaded, Loads, StoppedBy, TellsOf}
-use Rattle.loading.specs.Stages.{Books, BooksAt, BooksEnded, BooksStopped, EndRead, Given, Opens, PlanStopped, PlanWords, RestBooked, SelectRead}
+use Rattle.loading.specs.Stages.{BooksAt, BooksEnded, BooksStopped, EndRead, Given, Opens, PlanStopped, PlanWords, RestBooked, SelectRead}
 use Rattle.loading.specs.declared.fault.LoadFault.{LoadFault}
-use Rattle.loading.specs.declared.left.Left.{Left}
 use Rattle.loading.specs.declared.left.Left.TheVariants.{Planned, Opened}
 use Rattle.loading.specs.declared.left.Stopped.{Stopped}
 use Rattle.loading.proofs.Layered.{none_refused_push, pushed}
@@ -113,7 +110,7 @@ module _ {A B C D R : Type 0} (a : Source A) (b : Source B) (c : Source C) (d : 
   joins = source_joins a b c d sources
 
   -- words that were read to the end with no fault are those of a file
-  loaded : (month : Month A B C D) (words : List (Option Word)) (reached : FileWords R) →
+  loaded : (month : Month A B C D a b c d) (words : List (Option Word)) (reached : FileWords R) →
       Given before words reached →
       Ended reached after →
       (reading_of words).fault ≡ None →
@@ -164,7 +161,7 @@ module _ {A B C D R : Type 0} (a : Source A) (b : Source B) (c : Source C) (d : 
     }
 
     -- the month opens at the file's end
-    end_loaded : (month : Month A B C D) →
+    end_loaded : (month : Month A B C D a b c d) →
         EndRead before after at →
         Stands (terms_of a b c d plan sources) [] (state_of a b c d month) →
         Loaded a b c d joins month before after
@@ -176,7 +173,7 @@ module _ {A B C D R : Type 0} (a : Source A) (b : Source B) (c : Source C) (d : 
         (subst (λ p. Stands (terms_by joins p) [] (state_of a b c d month)) (same ∙ ap (λ (x : Standing). x.plan) (sym is)) stands))
 
     -- the opening is refused
-    module _ (place : ℕ) (stopped : Stopped A B C D) (opens : Opens a b c d plan sources place (Err stopped)) where
+    module _ (place : ℕ) (stopped : Stopped A B C D a b c d) (opens : Opens a b c d plan sources place (Err stopped)) where
       abbrev as_plan : ℕ → Told
       as_plan number = record { layer = PLAN; number = number; place = place }
 
@@ -231,15 +228,15 @@ module _ {A B C D R : Type 0} (a : Source A) (b : Source B) (c : Source C) (d : 
         left = left_is e.words at e.planned same;
         tells = λ t is. (
           e.ended,
-          ap (λ st. or_else (end_fault st after.number (left_over after)) (opening_tells joins st after.number)) e.planned.stands
-              ∙ ap (λ o. or_else o (opening_tells joins at after.number)) e.fine
+          ap (λ st. option_or (option_map as_told (end_fault st after.number (left_over after))) (opening_tells joins st after.number)) e.planned.stands
+              ∙ ap (λ o. option_or (option_map as_told o) (opening_tells joins at after.number)) e.fine
               ∙ ap (opening_tells joins at) (sym is-end)
               ∙ cond-false (has_opened at.phase) None _ e.planned.planning
               ∙ refuses t is,
         );
       }
 
-    pub end_loads : (place : ℕ) (r : Result (Open (Month A B C D)) (Stopped A B C D)) →
+    pub end_loads : (place : ℕ) (r : Result (Open (Month A B C D a b c d)) (Stopped A B C D a b c d)) →
         EndRead before after at →
         place ≡ after.number →
         Opens a b c d plan sources place r →
@@ -248,7 +245,7 @@ module _ {A B C D R : Type 0} (a : Source A) (b : Source B) (c : Source C) (d : 
     end_loads place (Err stopped) e is-end opens = end_stopped place stopped opens e is-end
 
     -- the rest of the file
-    module _ (middle : FileWords R) (place : ℕ) (s : SelectRead before middle at place) (month : Month A B C D)
+    module _ (middle : FileWords R) (place : ℕ) (s : SelectRead before middle at place) (month : Month A B C D a b c d)
         (stands : Stands (terms_of a b c d plan sources) [] (state_of a b c d month)) where
       abbrev first : List (Option Word)
       first = s.words ++ Some s.word ∷ []
@@ -256,12 +253,12 @@ module _ {A B C D R : Type 0} (a : Source A) (b : Source B) (c : Source C) (d : 
       pub books_first : BooksAt joins first at.phase (state_of a b c d month)
       books_first = opened_books joins s.words s.word s.at at (contents plan) (state_of a b c d month) s.planned s.opens same stands
 
-      rest_loaded : (then : Open (Month A B C D)) → BooksEnded joins first middle after (state_of a b c d then.0) → Loaded a b c d joins then.0 before after
+      rest_loaded : (then : Open (Month A B C D a b c d)) → BooksEnded joins first middle after (state_of a b c d then.0) → Loaded a b c d joins then.0 before after
       rest_loaded then e =
           loaded then.0 (first ++ e.more) e.reached (given-append before middle e.reached first e.more s.given e.given) e.ended
           e.books.clean e.fine e.books.stands
 
-      rest_stopped : (stopped : Stopped A B C D) (then : Open (Month A B C D)) →
+      rest_stopped : (stopped : Stopped A B C D a b c d) (then : Open (Month A B C D a b c d)) →
           stopped.left ≡ Opened then →
           BooksStopped joins first middle after (state_of a b c d then.0) stopped.fault →
           StoppedBy a b c d joins stopped before after
@@ -283,6 +280,6 @@ module _ {A B C D R : Type 0} (a : Source A) (b : Source B) (c : Source C) (d : 
                 subst (λ n. TellsOf joins (first ++ e.taken) e.others n e.reached after t) (omega arith) (e.tells t told_is);
           }
 
-      pub rest_loads : (r : Result (Open (Month A B C D)) (Stopped A B C D)) → RestBooked a b c d joins first middle after r → Loads a b c d joins before r after
+      pub rest_loads : (r : Result (Open (Month A B C D a b c d)) (Stopped A B C D a b c d)) → RestBooked a b c d joins first middle after r → Loads a b c d joins before r after
       rest_loads (Ok then) e = rest_loaded then e
       rest_loads (Err stopped) e = rest_stopped stopped e.0 e.1 e.2

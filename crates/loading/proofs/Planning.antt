@@ -1,5 +1,6 @@
 -- The plan's words, one by one. Assumes nothing.
 use Rattle.std.proofs.Common.{◌≡◌, ℕ, ◌+◌, List, [], ◌∷◌, ◌++◌, length, Some, None, Ok, Err, Option, sym, refl, ap, ◌∙◌, subst, arith}
+use Rattle.std.specs.Option.{option_map, option_or}
 use Rattle.std.proofs.lemmas.List.{append-nil}
 use Rattle.words.specs.Layout.{Decoded}
 use Rattle.words.specs.declared.word.Word.{Word}
@@ -7,22 +8,20 @@ use Rattle.input.specs.FileWords.{Ended, WordGiven, left_over}
 use Rattle.input.specs.declared.file_words.FileWords.{FileWords}
 use Rattle.input.proofs.Runs.{gave_count, gave-push, numbered}
 use Rattle.monthfile.specs.Faults.{Stepped, blamed, told as told_by_reading}
-use Rattle.monthfile.specs.Judging.{Standing, Verdict, Faulty, Taken, beginning, judge}
+use Rattle.monthfile.specs.Judging.{Layer, Standing, Verdict, Faulty, Taken, beginning, judge}
 use Rattle.monthfile.specs.Reading.{end_fault}
-use Rattle.monthfile.specs.Whole.{or_else}
+use Rattle.monthfile.specs.Telling.{as_told, layer_of, told_of}
 use Rattle.monthfile.specs.declared.brought.Brought.{Brought}
 use Rattle.monthfile.specs.declared.brought.Brought.TheVariants.{Nothing, Opening, Offtake}
 use Rattle.monthfile.specs.declared.fault.ReadFault.{ReadFault}
-use Rattle.monthfile.specs.declared.telling.Layer.{Layer}
 use Rattle.monthfile.specs.declared.telling.Layer.TheVariants.{File as FILE}
 use Rattle.monthfile.specs.declared.telling.Told.{Told}
 use Rattle.monthfile.proofs.OneByOne.{decoded-append, length-decoded}
 use Rattle.loading.specs.Faults.{told}
 use Rattle.loading.specs.Layers.{end_tells, opening_tells, reading_of, verdict_fault, word_fault}
-use Rattle.loading.specs.Loading.{TellsOf}
 use Rattle.loading.specs.Stages.{EndRead, Given, PlanStopped, PlanWords, SelectRead}
 use Rattle.loading.specs.declared.fault.LoadFault.{LoadFault}
-use Rattle.loading.specs.declared.fault.LoadFault.TheVariants.{Reading, Transfer}
+use Rattle.loading.specs.declared.fault.LoadFault.TheVariants.{Reading}
 use Rattle.loading.proofs.Layered.{none_refused_nil, none_refused_push, pushed}
 use Rattle.loading.proofs.Staged.{plan_step}
 
@@ -65,18 +64,18 @@ pub tells_word : (joins : ℕ → ℕ → ℕ → ℕ) (words : List (Option Wor
     ((word : Word) (layer : Layer) (number : ℕ) → judge at word ≡ Faulty layer number → judge (reading_of words).standing word ≡ Faulty layer number) →
     (stepped : Stepped at place bits (Err fault) after) →
     (t : Told) →
-    told_by_reading fault ≡ Some t →
+    told_of fault ≡ Some t →
     (word_fault joins words stepped.0 ≡ Some (t.layer, t.number)) × (t.place ≡ place)
 tells_word joins words at place bits fault after faulty (None, decoded, (tells, same)) t is =
-    let e : record { layer = FILE; number = 1; place = place } ≡ t = some_is (sym tells ∙ is) in
+    let e : record { layer = FILE; number = 1; place = place } ≡ t = some_is (ap (option_map as_told) (sym tells) ∙ is) in
     (ap (λ (x : Told). Some (x.layer, x.number)) e, ap (λ (x : Told). x.place) (sym e))
 tells_word joins words at place bits fault after faulty (Some word, decoded, (tells, same)) t is =
-    go (judge at word) refl (sym tells ∙ is)
+    go (judge at word) refl (ap (option_map as_told) (sym tells) ∙ is)
   where
-    go : (v : Verdict) → judge at word ≡ v → blamed place v ≡ Some t →
+    go : (v : Verdict) → judge at word ≡ v → option_map as_told (blamed place v) ≡ Some t →
         (word_fault joins words (Some word) ≡ Some (t.layer, t.number)) × (t.place ≡ place)
     go (Faulty layer number) e b =
-        let same : record { layer = layer; number = number; place = place } ≡ t = some_is b in (
+        let same : record { layer = layer_of layer; number = number; place = place } ≡ t = some_is b in (
           ap (verdict_fault joins (reading_of words).bookings) (faulty word layer number e) ∙ ap (λ (x : Told). Some (x.layer, x.number)) same,
           ap (λ (x : Told). x.place) (sym same),
         )
@@ -85,10 +84,11 @@ tells_word joins words at place bits fault after faulty (Some word, decoded, (te
 -- what FILE tells of the end, all layers tell
 pub tells_end : (joins : ℕ → ℕ → ℕ → ℕ) (words : List (Option Word)) (at : Standing) (place over : ℕ) (t : Told) →
     (reading_of words).standing ≡ at →
-    end_fault at place over ≡ Some t →
+    option_map as_told (end_fault at place over) ≡ Some t →
     end_tells joins words place over ≡ Some t
 tells_end joins words at place over t stands e =
-    ap (λ o. or_else o (opening_tells joins (reading_of words).standing place)) (ap (λ st. end_fault st place over) stands ∙ e)
+    ap (λ o. option_or o (opening_tells joins (reading_of words).standing place))
+    (ap (λ st. option_map as_told (end_fault st place over)) stands ∙ e)
 
 plan_none : PlanWords [] beginning
 plan_none = record {
@@ -203,5 +203,5 @@ module _ {R : Type 0} (before : FileWords R) where
         counts = ended.stays;
         planned = so_far.2;
         tells = λ joins t is.
-            (ended, tells_end joins so_far.0 at after.number (left_over after) t so_far.2.stands (sym tells ∙ is));
+            (ended, tells_end joins so_far.0 at after.number (left_over after) t so_far.2.stands (ap (option_map as_told) (sym tells) ∙ is));
       }

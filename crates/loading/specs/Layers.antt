@@ -1,6 +1,6 @@
 -- How a month file is judged by its layers: FILE and PLAN judge each word, and then the month judges what the word brings.
 use Rattle.std.specs.Prelude.{◌≡◌, ℕ, Bool, true, false, cond, List, ◌∷◌, ◌++◌, Some, None, Option}
-use Rattle.std.specs.Option.{option_map}
+use Rattle.std.specs.Option.{option_map, option_or}
 use Rattle.plan.specs.Contents.{Contents}
 use Rattle.plan.specs.declared.booking.Booking.{Booking}
 use Rattle.words.specs.declared.word.Word.{Word}
@@ -9,7 +9,7 @@ use Rattle.month.specs.Opening.{opening_refusal}
 use Rattle.month.specs.Terms.{Terms}
 use Rattle.monthfile.specs.Judging.{Standing, Verdict, Faulty, Taken, beginning, judge}
 use Rattle.monthfile.specs.Reading.{Reading, end_fault, reading}
-use Rattle.monthfile.specs.Whole.{or_else}
+use Rattle.monthfile.specs.Telling.{as_told, layer_of}
 use Rattle.monthfile.specs.declared.brought.Brought.{Brought}
 use Rattle.monthfile.specs.declared.brought.Brought.TheVariants.{Nothing, Opening, Offtake}
 use Rattle.monthfile.specs.declared.phase.Phase.{Phase}
@@ -26,11 +26,11 @@ reading_of words = reading beginning 0 words
 abbrev pub has_opened : Phase → Bool
 has_opened Start = false
 has_opened Segments = false
-has_opened (AwaitsFactor given) = false
+has_opened (AwaitsFactor segment service tariff) = false
 has_opened Meters = false
 has_opened Peaks = false
-has_opened (Selected spot) = true
-has_opened (Booked next) = true
+has_opened (Selected segment meter hour) = true
+has_opened (Booked segment meter hour) = true
 
 module _ (joins : ℕ → ℕ → ℕ → ℕ) where
   -- what a month is opened with, by its plan
@@ -46,7 +46,7 @@ module _ (joins : ℕ → ℕ → ℕ → ℕ) where
 
   -- the same of a word by the verdict of FILE and PLAN, which comes first
   abbrev pub verdict_fault : List Booking → Verdict → Option (Layer × ℕ)
-  verdict_fault bookings (Faulty layer number) = Some (layer, number)
+  verdict_fault bookings (Faulty layer number) = Some (layer_of layer, number)
   verdict_fault bookings (Taken after brought) = brought_fault after.plan bookings brought
 
   -- the same of the word that follows these words
@@ -68,4 +68,5 @@ module _ (joins : ℕ → ℕ → ℕ → ℕ) where
   -- what the end of a file after these words tells, if it is a fault: FILE's own, else the opening's
   abbrev pub end_tells : List (Option Word) → (place over : ℕ) → Option Told
   end_tells words place over =
-      or_else (end_fault (reading_of words).standing place over) (opening_tells (reading_of words).standing place)
+      option_or (option_map as_told (end_fault (reading_of words).standing place over))
+      (opening_tells (reading_of words).standing place)

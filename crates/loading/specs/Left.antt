@@ -2,13 +2,16 @@
 use Rattle.month.specs.OfMonth.{held_sources}
 use Rattle.month.specs.declared.sources.Sources.{Sources}
 use Rattle.plan.specs.declared.plan.Plan.{Plan}
+use Rattle.weights.specs.declared.source.WeightSource.{Ghosts as Source}
 use Rattle.loading.specs.declared.left.Left.{Left}
 use Rattle.loading.specs.declared.left.Left.TheVariants.{Planned, Opened}
 
-abbrev pub plan_of : {A B C D : Type 0} → Left A B C D → Plan
+abbrev pub plan_of : {A B C D : Type 0} {a : Source A} {b : Source B} {c : Source C} {d : Source D} → Left A B C D a b c d → Plan
 plan_of (Planned plan sources) = plan
 plan_of (Opened month) = month.0.plan
 
-abbrev pub held_by : {A B C D : Type 0} → Left A B C D → Sources A B C D
+abbrev pub held_by : {A B C D : Type 0} {a : Source A} {b : Source B} {c : Source C} {d : Source D} →
+    Left A B C D a b c d →
+    Sources A B C D
 held_by (Planned plan sources) = sources
 held_by (Opened month) = held_sources month.0.books

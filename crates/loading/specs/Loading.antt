@@ -31,7 +31,7 @@ TellsOf joins taken (word ∷ others) next reached after t =
 module _ {A B C D : Type 0} (a : Source A) (b : Source B) (c : Source C) (d : Source D) (joins : ℕ → ℕ → ℕ → ℕ) where
   -- The words that were given, to the file's last byte, are those of the file of a plan and bookings; and the month stands as
   -- this plan says with all of these bookings accepted.
-  pub record Loaded {R : Type 0} (month : Month A B C D) (before after : FileWords R) : Type 0 where
+  pub record Loaded {R : Type 0} (month : Month A B C D a b c d) (before after : FileWords R) : Type 0 where
     pub plan : Contents
     pub bookings : List Booking
     pub reached : FileWords R
@@ -42,7 +42,7 @@ module _ {A B C D : Type 0} (a : Source A) (b : Source B) (c : Source C) (d : So
 
   -- what is left where these words were taken: the plan that they made, with no booking yet, and the sources; or the open
   -- month with all bookings that they brought
-  abbrev pub LeftBy : List (Option Word) → Left A B C D → Type 0
+  abbrev pub LeftBy : List (Option Word) → Left A B C D a b c d → Type 0
   LeftBy words (Planned plan sources) =
       (contents plan ≡ (reading_of words).standing.plan) × ((reading_of words).bookings ≡ []) × (source_joins a b c d sources ≡ joins)
   LeftBy words (Opened month) =
@@ -50,7 +50,7 @@ module _ {A B C D : Type 0} (a : Source A) (b : Source B) (c : Source C) (d : So
 
   -- Of the words that were given some were taken. Those are left, and a fault that tells something tells the first word that a
   -- layer refuses, or the end.
-  pub record StoppedBy {R : Type 0} (stopped : Stopped A B C D) (before after : FileWords R) : Type 0 where
+  pub record StoppedBy {R : Type 0} (stopped : Stopped A B C D a b c d) (before after : FileWords R) : Type 0 where
     pub bits : List ℕ
     pub reached : FileWords R
     pub gave : Gave before bits reached
@@ -64,6 +64,6 @@ module _ {A B C D : Type 0} (a : Source A) (b : Source B) (c : Source C) (d : So
         told stopped.fault ≡ Some t →
         TellsOf joins taken others (before.number + length taken) reached after t
 
-  abbrev pub Loads : {R : Type 0} → FileWords R → Result (Open (Month A B C D)) (Stopped A B C D) → FileWords R → Type 0
+  abbrev pub Loads : {R : Type 0} → FileWords R → Result (Open (Month A B C D a b c d)) (Stopped A B C D a b c d) → FileWords R → Type 0
   Loads before (Ok month) after = Loaded month.0 before after
   Loads before (Err stopped) after = StoppedBy stopped before after

@@ -128,7 +128,7 @@ module _ (joins : ℕ → ℕ → ℕ → ℕ) (words : List (Option Word)) wher
 
 module _ {A B C D : Type 0} (a : Source A) (b : Source B) (c : Source C) (d : Source D) where
   -- the month is opened, or what PLAN tells at this place, with the plan and the sources handed back
-  abbrev pub Opens : (plan : Plan) (sources : Sources A B C D) (place : ℕ) → Result (Open (Month A B C D)) (Stopped A B C D) → Type 0
+  abbrev pub Opens : (plan : Plan) (sources : Sources A B C D) (place : ℕ) → Result (Open (Month A B C D a b c d)) (Stopped A B C D a b c d) → Type 0
   Opens plan sources place (Ok month) = Stands (terms_of a b c d plan sources) [] (state_of a b c d month.0)
   Opens plan sources place (Err stopped) =
       (back : Sources A B C D) × (stopped.left ≡ Planned plan back) × (source_joins a b c d back ≡ source_joins a b c d sources)
@@ -137,8 +137,8 @@ module _ {A B C D : Type 0} (a : Source A) (b : Source B) (c : Source C) (d : So
       option_map (λ number. record { layer = PLAN; number = number; place = place }) (opening_refusal (terms_of a b c d plan sources)) ≡ Some t)
 
   -- the rest of the file is booked, or the month is left as far as it was
-  abbrev pub RestBooked : {R : Type 0} (joins : ℕ → ℕ → ℕ → ℕ) (words : List (Option Word)) (before after : FileWords R) → Result (Open (Month A B C D)) (Stopped A B C D) → Type 0
+  abbrev pub RestBooked : {R : Type 0} (joins : ℕ → ℕ → ℕ → ℕ) (words : List (Option Word)) (before after : FileWords R) → Result (Open (Month A B C D a b c d)) (Stopped A B C D a b c d) → Type 0
   RestBooked joins words before after (Ok month) = BooksEnded joins words before after (state_of a b c d month.0)
   RestBooked joins words before after (Err stopped) =
-      (month : Open (Month A B C D)) × (stopped.left ≡ Opened month)
+      (month : Open (Month A B C D a b c d)) × (stopped.left ≡ Opened month)
       × BooksStopped joins words before after (state_of a b c d month.0) stopped.fault

@@ -1,4 +1,6 @@
 // Shows a month file from standard input: a line for each record as its words are judged. At a fault its line is the last, and the status is 1.
+#![tactic(auto)]
+
 use anyhow::{Context, anyhow};
 use dumping::dump_block;
 use input::Blocks;

@@ -1,9 +1,11 @@
 // Tells how many hours each assigned meter still misses: reads a month file from standard input, opens the month and books
 // every amount. At a fault it prints the fault's line alone, and the status is 1.
+#![tactic(auto)]
+
 use anyhow::anyhow;
 use input::FileWords;
 use lines::{FaultLine, gap_text};
-use loading::{LoadFault, load};
+use loading::{LoadFault, Stopped, load};
 use month::{Month, Open, Sources};
 use weights::{Adding, Greatest};
 
@@ -47,9 +49,9 @@ fn main(rt: HostRuntime) -> anyhow::Result<()> {
             let _ = month.abandon();
             shown
         }
-        Err(stopped) => {
-            let _ = stopped.left.abandon();
-            tell(&rt, stopped.fault)
+        Err(Stopped { fault, left }) => {
+            let _ = left.abandon();
+            tell(&rt, fault)
         }
     }
 }

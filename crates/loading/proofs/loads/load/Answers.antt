@@ -1,4 +1,4 @@
-use Rattle.std.proofs.Common.{sym, ap}
+use Rattle.std.proofs.Common.{ap}
 use Rattle.monthfile.specs.Judging.{Standing}
 use Rattle.monthfile.specs.View.{standing_of}
 use Rattle.loading.proofs.Entire.{plan_stopped}

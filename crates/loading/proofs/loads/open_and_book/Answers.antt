@@ -1,4 +1,4 @@
-use Rattle.std.proofs.Common.{◌≡◌, [], ◌∷◌, ◌++◌, Some, Ok, sym, subst}
+use Rattle.std.proofs.Common.{[], ◌∷◌, ◌++◌, Some, Ok, sym, subst}
 use Rattle.month.specs.OfMonth.{source_joins, state_of}
 use Rattle.loading.specs.Stages.{BooksAt, PlanRead}
 use Rattle.loading.proofs.Entire.{books_first, end_loads, rest_loads, select_stopped}

@@ -1,4 +1,4 @@
-use Rattle.std.proofs.Common.{◌≡◌, sym, ap, ◌∙◌}
+use Rattle.std.proofs.Common.{sym, ap, ◌∙◌}
 use Rattle.month.specs.OfMonth.{terms_of}
 use Rattle.plan.specs.declared.plan.Plan.{Plan}
 use Rattle.loading.specs.Faults.{told}

@@ -1,12 +1,10 @@
-use Rattle.std.proofs.Common.{◌≡◌, ◌++◌, sym, refl, ap, ◌∙◌, subst}
+use Rattle.std.proofs.Common.{◌++◌, sym, ap, ◌∙◌}
 use Rattle.std.specs.declared.io.Error.{Error}
 use Rattle.std.proofs.lemmas.Result.{err_from_is_err_and}
 use Rattle.input.proofs.Runs.{end_given, word_given}
-use Rattle.month.specs.OfMonth.{state_of}
 use Rattle.monthfile.specs.View.{standing_of}
 use Rattle.plan.specs.OfPlan.{contents}
 use Rattle.loading.specs.Faults.{told}
-use Rattle.loading.specs.Stages.{WordBooked}
 use Rattle.loading.proofs.Planning.{end_asked}
 use Rattle.loading.proofs.Rest.{books_begun, books_cut_short, books_ended, books_failed, books_more, books_refused}
 use Rattle.loading.proofs.stages.book_words.Goals as goal
