@@ -3,7 +3,7 @@ ghost use Rattle.std.specs.List.{list_all};
 ghost use Rattle.book.specs.Answers.{Answered, Booked, Opened};
 ghost use Rattle.book.specs.Contents.{count_at};
 ghost use Rattle.plan.specs.Calls.{peak_fits, peak_precedes};
-ghost use Rattle.plan.specs.Limits.{amr as firstSegment, most_segments};
+ghost use Rattle.plan.specs.Limits.{amr as first_segment, most_segments};
 ghost use Rattle.plan.specs.WellMade.{ascending};
 ghost use Rattle.weights.specs.Answers.{ask_refusal};
 ghost use Rattle.month.specs.Faults.{opening_number_of};
@@ -55,9 +55,9 @@ impl<A: WeightSource, B: WeightSource, C: WeightSource, D: WeightSource> Four<A,
         requires opened { (s : ℕ) → Opened (books_of A.WeightSource B.WeightSource C.WeightSource D.WeightSource self.old s) }
         requires fit { list_all peak_fits peaks.now ≡ true }
         requires ascend { ascending peak_precedes peaks.now ≡ true }
-        ensures noted { MatchResult result (λ _. PeaksNoted (book_joins A.WeightSource B.WeightSource C.WeightSource D.WeightSource self.old firstSegment) peaks.now (books_of A.WeightSource B.WeightSource C.WeightSource D.WeightSource self.old firstSegment) (books_of A.WeightSource B.WeightSource C.WeightSource D.WeightSource self.new firstSegment)) (λ fault. opening_number_of fault ≡ Some 6) }
-        ensures light { MatchResult result (λ _. peaks_light (book_joins A.WeightSource B.WeightSource C.WeightSource D.WeightSource self.old firstSegment) peaks.now ≡ true) (λ _. peaks_light (book_joins A.WeightSource B.WeightSource C.WeightSource D.WeightSource self.old firstSegment) peaks.now ≡ false) }
-        ensures others { (s : ℕ) → (s ≢ firstSegment) → books_of A.WeightSource B.WeightSource C.WeightSource D.WeightSource self.new s ≡ books_of A.WeightSource B.WeightSource C.WeightSource D.WeightSource self.old s }
+        ensures noted { MatchResult result (λ _. PeaksNoted (book_joins A.WeightSource B.WeightSource C.WeightSource D.WeightSource self.old first_segment) peaks.now (books_of A.WeightSource B.WeightSource C.WeightSource D.WeightSource self.old first_segment) (books_of A.WeightSource B.WeightSource C.WeightSource D.WeightSource self.new first_segment)) (λ fault. opening_number_of fault ≡ Some 6) }
+        ensures light { MatchResult result (λ _. peaks_light (book_joins A.WeightSource B.WeightSource C.WeightSource D.WeightSource self.old first_segment) peaks.now ≡ true) (λ _. peaks_light (book_joins A.WeightSource B.WeightSource C.WeightSource D.WeightSource self.old first_segment) peaks.now ≡ false) }
+        ensures others { (s : ℕ) → (s ≢ first_segment) → books_of A.WeightSource B.WeightSource C.WeightSource D.WeightSource self.new s ≡ books_of A.WeightSource B.WeightSource C.WeightSource D.WeightSource self.old s }
         ensures joins { book_joins A.WeightSource B.WeightSource C.WeightSource D.WeightSource self.new ≡ book_joins A.WeightSource B.WeightSource C.WeightSource D.WeightSource self.old }
     {
         carry_peaks(&mut self.amr, peaks)
