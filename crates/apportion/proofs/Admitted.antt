@@ -11,24 +11,15 @@ pub record Admitted (greatest total : ℕ) (weights : List ℕ) (places : ℕ) :
   pub small : total ≤ greatest
   pub based : sum weights ≡ 0 → total ≡ 0
 
-module _ (greatest total : ℕ) (weights : List ℕ) (places : ℕ) (h : refusal greatest total weights places ≡ None) where
-  few : length weights ≤ most_weights
-  few = grind (arith, tells)
-
-  room : length weights ≤ places
-  room = grind (arith, tells)
-
-  light : sum weights ≤ heaviest
-  light = grind (arith, tells)
-
-  small : total ≤ greatest
-  small = grind (arith, tells)
-
-  based : sum weights ≡ 0 → total ≡ 0
-  based none = grind (arith, tells)
-
-  pub admitted : Admitted greatest total weights places
-  admitted = record { few = few; room = room; light = light; small = small; based = based }
+pub admitted : (greatest total : ℕ) (weights : List ℕ) (places : ℕ) → refusal greatest total weights places ≡ None
+    → Admitted greatest total weights places
+admitted greatest total weights places h = record {
+  few = grind (arith, tells);
+  room = grind (arith, tells);
+  light = grind (arith, tells);
+  small = grind (arith, tells);
+  based = λ none. grind (arith, tells);
+}
 
 -- an answer that is no refusal
 pub not_refused : {X : Type 0} (r : Result X CutFault) (x : X) (o : Option ℕ) → told r ≡ o → r ≡ Ok x → o ≡ None

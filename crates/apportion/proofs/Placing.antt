@@ -1,9 +1,8 @@
 -- Writing one share after the other, and what stands in the places then. Assumes nothing.
-use Rattle.std.proofs.Common.{◌≡◌, ℕ, ◌+◌, ◌<◌, List, [], ◌∷◌, ◌++◌, map, length, drop, set, None, Option, sym, ap, ◌∙◌, zero-add}
+use Rattle.std.proofs.Common.{◌≡◌, ℕ, ◌+◌, ◌<◌, List, [], ◌∷◌, ◌++◌, map, length, drop, set, sym, ap, ◌∙◌, zero-add}
 use Rattle.std.specs.List.{range_with_len}
 use Rattle.std.proofs.lemmas.List.FromFn.{map-range_with_len_more, length-map-range_with_len}
 use Rattle.std.proofs.lemmas.List.{append_assoc, drop_more, set_at}
-use Rattle.apportion.specs.Cutting.{leaves}
 
 -- f at the positions below i, and beyond them what stood there
 abbrev pub filled : (ℕ → ℕ) → ℕ → List ℕ → List ℕ
@@ -17,10 +16,3 @@ filled_more f places i v h e =
     ∙ ap (λ x. map f (range_with_len 0 i) ++ x ∷ drop (i + 1) places) e
     ∙ sym (append_assoc (map f (range_with_len 0 i)) (f i ∷ []) (drop (i + 1) places))
     ∙ ap (λ front. front ++ drop (i + 1) places) (sym (map-range_with_len_more f 0 i i (zero-add i)))
-
--- all shares written: what an accepted cut leaves
-pub filled_all : (f : ℕ → ℕ) (n i : ℕ) (refused : Option ℕ) (places after : List ℕ) → after ≡ filled f i places → i ≡ n → refused ≡ None
-    → after ≡ leaves refused (map f (range_with_len 0 n)) places
-filled_all f n i refused places after written all none =
-    written ∙ ap (λ k. filled f k places) all ∙ ap (λ k. map f (range_with_len 0 n) ++ drop k places) (sym (length-map-range_with_len f 0 n))
-    ∙ ap (λ o. leaves o (map f (range_with_len 0 n)) places) (sym none)

@@ -1,7 +1,8 @@
 // The refusals of a cut, in their order, for every rule.
-ghost use Rattle.std.specs.Prelude.{◌≡◌, ◌-◌, ◌^◌, min, length, Some, None, sum, MatchResult};
-ghost use Rattle.apportion.specs.Cutting.{number_of, refusal};
+ghost use Rattle.std.specs.Prelude.{◌≡◌, ◌≤◌, ◌-◌, ◌^◌, min, length, Some, None, sum, MatchResult};
+ghost use Rattle.apportion.specs.Cutting.{greatest_total, number_of, refusal};
 
+use crate::apportionment::Apportionment;
 use crate::fault::CutFault;
 
 pub const MOST_WEIGHTS: usize = 16;
@@ -12,21 +13,20 @@ const HEAVIEST: u64 = 1_000_000_000;
 fn weigh(weights: &[u64]) -> u64
     ensures { result ≡ min (sum weights.now) (2 ^ 64 - 1) }
 {
-    let mut whole: u64 = 0;
-    for weight in weights {
-        whole = whole.saturating_add(*weight);
-    }
-    whole
+    weights
+        .iter()
+        .fold(0, |whole: u64, weight| whole.saturating_add(*weight))
 }
 
-// The sum of the weights where the cut may go ahead; otherwise its refusal.
+// The cut where it may go ahead; otherwise its refusal.
 pub(crate) fn admit(
     greatest: u64,
     total: u64,
     weights: &[u64],
     places: usize,
-) -> Result<u64, CutFault>
-    ensures { MatchResult result (λ whole. (refusal greatest total weights.now places ≡ None) × (whole ≡ sum weights.now)) (λ fault. refusal greatest total weights.now places ≡ Some (number_of fault)) }
+) -> Result<Apportionment<'_>, CutFault>
+    requires { greatest ≤ greatest_total }
+    ensures { MatchResult result (λ cut. (refusal greatest total weights.now places ≡ None) × (cut.total ≡ total) × (cut.weights.now ≡ weights.now)) (λ fault. refusal greatest total weights.now places ≡ Some (number_of fault)) }
 {
     if weights.len() > MOST_WEIGHTS {
         return Err(CutFault::ManyWeights);
@@ -44,5 +44,9 @@ pub(crate) fn admit(
     if whole == 0 && total > 0 {
         return Err(CutFault::NoWeight);
     }
-    Ok(whole)
+    Ok(Apportionment {
+        total,
+        weights,
+        whole,
+    })
 }

@@ -2,31 +2,25 @@
 ghost use Rattle.std.specs.Prelude.{◌≡◌};
 ghost use Rattle.apportion.specs.Cutting.{number_of};
 
+// Each has the number that the caller is told.
 #[derive(Clone, Copy, PartialEq, Eq, Debug)]
 pub enum CutFault {
     // more than 16 weights
-    ManyWeights,
+    ManyWeights = 3,
     // fewer places than weights
-    FewPlaces,
+    FewPlaces = 10,
     // the weights add up to more than 1,000,000,000
-    HeavyWeights,
+    HeavyWeights = 6,
     // the total is above the greatest that the rule takes
-    LargeTotal,
+    LargeTotal = 8,
     // a total above zero, and no weight above zero
-    NoWeight,
+    NoWeight = 9,
 }
 
 impl CutFault {
-    // The number that the caller is told.
     pub fn number(self) -> u8
         ensures { result ≡ number_of self }
     {
-        match self {
-            CutFault::ManyWeights => 3,
-            CutFault::FewPlaces => 10,
-            CutFault::HeavyWeights => 6,
-            CutFault::LargeTotal => 8,
-            CutFault::NoWeight => 9,
-        }
+        self as u8
     }
 }

@@ -1,12 +1,12 @@
 // Largest remainder: whole parts first, then the units left over by the size of what was cut off.
-ghost use Rattle.std.specs.Prelude.{◌≡◌, ◌-◌, ◌*◌, ◌/◌, ◌<◌, ◌≤◌, ◌&&◌, ◌||◌, ltb, length, sum, nat_eq, nat_lt};
-ghost use Rattle.apportion.specs.Cutting.{greatest_total, heaviest};
-ghost use Rattle.apportion.specs.LargestRemainder.{ahead, largest_remainder, left_over, share_by_remainder};
+ghost use Rattle.std.specs.Prelude.{◌≡◌, ◌<◌, length};
+ghost use Rattle.apportion.specs.Cutting.{greatest_total};
+ghost use Rattle.apportion.specs.LargestRemainder.{ahead, largest_remainder, left_over, precedes, remainder, share_by_remainder};
 ghost use Rattle.apportion.specs.Rounding.{by_remainder};
 
 use crate::admission::admit;
+use crate::apportionment::Apportionment;
 use crate::fault::CutFault;
-use crate::portion::portion;
 use crate::rule::CutRule;
 
 #[derive(Clone, Copy)]
@@ -15,84 +15,73 @@ pub struct LargestRemainder;
 impl CutRule for LargestRemainder {
     const GREATEST: u64 = 3_000_000_000;
 
-    ghost greatest = { greatest_total };
+    ghost GREATEST = { greatest_total };
 
     ghost shares = { λ _. largest_remainder };
 
     ghost fair = { λ _ total weights _ _ _. by_remainder total weights };
 
-    fn limit() -> u64 {
-        Self::GREATEST
-    }
-
+    #[tactic(auto, using(crate::proofs::Placing::filled_more))]
     fn cut(&self, total: u64, weights: &[u64], places: &mut [u64]) -> Result<(), CutFault> {
-        let whole = admit(Self::GREATEST, total, weights, places.len())?;
-        let left = left_over(total, weights, whole);
-        for i in 0..weights.len() {
-            places[i] = share_at(total, weights, whole, left, i);
+        let cut = admit(Self::GREATEST, total, weights, places.len())?;
+        let left = cut.left_over();
+        for (position, place) in places[..cut.weights.len()].iter_mut().enumerate() {
+            *place = cut.share_at(position, left);
         }
         Ok(())
     }
 }
 
-// The whole part, and one unit more where fewer positions precede than units are left over.
-fn share_at(total: u64, weights: &[u64], whole: u64, left: u64, position: usize) -> u64
-    requires small { total ≤ greatest_total }
-    requires weighed { whole ≡ sum weights.now }
-    requires light { whole ≤ heaviest }
-    requires over { left ≡ left_over total weights.now }
-    requires within { position < length weights.now }
-    ensures { result ≡ share_by_remainder total weights.now position }
-{
-    let part = portion(total, weights[position], whole);
-    if count_ahead(total, weights, whole, position) < left {
-        part + 1
-    } else {
-        part
+impl Apportionment<'_> {
+    // The whole part, and one unit more where fewer positions precede than units are left over.
+    fn share_at(&self, position: usize, left: u64) -> u64
+        requires within { position < length self.now.weights.now }
+        requires over { left ≡ left_over self.now.total self.now.weights.now }
+        ensures { result ≡ share_by_remainder self.now.total self.now.weights.now position }
+    {
+        let part = self.portion(self.weights[position]);
+        if (self.count_ahead(position) as u64) < left {
+            part + 1
+        } else {
+            part
+        }
     }
-}
 
-// The units that the whole parts leave over.
-fn left_over(total: u64, weights: &[u64], whole: u64) -> u64
-    requires small { total ≤ greatest_total }
-    requires weighed { whole ≡ sum weights.now }
-    requires light { whole ≤ heaviest }
-    ensures { result ≡ left_over total weights.now }
-{
-    let mut left = total;
-    for weight in weights {
-        left -= portion(total, *weight, whole);
+    // The units that the whole parts leave over.
+    fn left_over(&self) -> u64
+        ensures { result ≡ left_over self.now.total self.now.weights.now }
+    {
+        let mut left = self.total;
+        for weight in self.weights {
+            left -= self.portion(*weight);
+        }
+        left
     }
-    left
-}
 
-// How many positions precede this one.
-fn count_ahead(total: u64, weights: &[u64], whole: u64, position: usize) -> u64
-    requires small { total ≤ greatest_total }
-    requires weighed { whole ≡ sum weights.now }
-    requires light { whole ≤ heaviest }
-    requires within { position < length weights.now }
-    ensures { result ≡ ahead total weights.now position }
-{
-    let own = cut_off(total, weights[position], whole);
-    let mut count = 0;
-    for i in 0..weights.len() {
-        count += u64::from(comes_first(cut_off(total, weights[i], whole), own, i, position));
+    fn count_ahead(&self, position: usize) -> usize
+        requires { position < length self.now.weights.now }
+        ensures { result ≡ ahead self.now.total self.now.weights.now position }
+    {
+        (0..self.weights.len())
+            .filter(|other| self.precedes(*other, position))
+            .count()
     }
-    count
-}
 
-// The remainder: what rounding down cut off, times the whole.
-fn cut_off(total: u64, weight: u64, whole: u64) -> u64
-    requires { (total ≤ greatest_total) × (weight ≤ heaviest) }
-    ensures { result ≡ total * weight - whole * (total * weight / whole) }
-{
-    total * weight - whole * portion(total, weight, whole)
-}
+    // A larger remainder precedes; of equal remainders the one at the lower position does.
+    fn precedes(&self, other: usize, position: usize) -> bool
+        requires other { other < length self.now.weights.now }
+        requires position { position < length self.now.weights.now }
+        ensures { result ≡ precedes self.now.total self.now.weights.now other position }
+    {
+        (self.remainder(position), other) < (self.remainder(other), position)
+    }
 
-// Whether the remainder at position i precedes the one at position j.
-fn comes_first(at_i: u64, at_j: u64, i: usize, j: usize) -> bool
-    ensures { result ≡ (ltb at_j at_i || (nat_eq at_i at_j && nat_lt i j)) }
-{
-    at_j < at_i || (at_i == at_j && i < j)
+    // What rounding down cut off, times the whole.
+    fn remainder(&self, position: usize) -> u64
+        requires { position < length self.now.weights.now }
+        ensures { result ≡ remainder self.now.total self.now.weights.now position }
+    {
+        let weight = self.weights[position];
+        self.total * weight - self.whole * self.portion(weight)
+    }
 }

@@ -2,9 +2,9 @@
 #![tactic(auto)]
 
 mod admission;
+mod apportionment;
 mod fault;
 mod largest_remainder;
-mod portion;
 mod rule;
 mod running_cut;
 mod sharing;

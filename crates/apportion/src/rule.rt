@@ -8,20 +8,15 @@ pub trait CutRule {
     // The greatest total that the rule takes.
     const GREATEST: u64;
 
-    // What `GREATEST` is to a clause, where an associated constant has no name.
-    ghost greatest: { ℕ };
+    ghost GREATEST: { ℕ };
 
     // The shares of a total, one for each weight: the rule's meaning.
     ghost shares: { Self → ℕ → List ℕ → List ℕ };
 
-    // `GREATEST`, for code that is generic over the rule.
-    fn limit() -> u64
-        ensures { result ≡ greatest };
-
     // Cuts the total by the weights into the first places.
     fn cut(&self, total: u64, weights: &[u64], places: &mut [u64]) -> Result<(), CutFault>
-        ensures answer { told result ≡ (outcome greatest (shares self.now) total weights.now places.old).answer }
-        ensures places { places.new ≡ (outcome greatest (shares self.now) total weights.now places.old).places };
+        ensures answer { told result ≡ (outcome GREATEST (shares self.now) total weights.now places.old).answer }
+        ensures places { places.new ≡ (outcome GREATEST (shares self.now) total weights.now places.old).places };
 
-    ghost fair: { (rule : Self) → Fair greatest (shares rule) };
+    ghost fair: { (rule : Self) → Fair GREATEST (shares rule) };
 }

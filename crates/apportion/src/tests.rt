@@ -1,12 +1,11 @@
-use crate::{CutRule, LargestRemainder, RunningCut, share_out};
+use crate::{CutFault, CutRule, LargestRemainder, RunningCut, share_out};
 use std::process::Abort;
 
 // The number that a cut is refused with, or 0.
 fn answer<R: CutRule>(rule: &R, total: u64, weights: &[u64], places: &mut [u64]) -> u8 {
-    match rule.cut(total, weights, places) {
-        Ok(()) => 0,
-        Err(fault) => fault.number(),
-    }
+    rule.cut(total, weights, places)
+        .err()
+        .map_or(0, CutFault::number)
 }
 
 #[test]

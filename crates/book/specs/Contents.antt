@@ -1,5 +1,5 @@
 -- What a segment's book holds, as plain values.
-use Rattle.std.specs.Prelude.{ℕ, Bool, not, List, [], map, vec_items, count_by, slice_index, slice_index_or}
+use Rattle.std.specs.Prelude.{ℕ, Bool, not, List, [], map, count_by, slice_index, slice_index_or}
 use Rattle.std.specs.List.{range_with_len}
 use Rattle.book.specs.Marks.{is_marked, ones_of}
 use Rattle.book.specs.declared.tables.Tables.{Tables}
@@ -14,12 +14,16 @@ pub record Contents : Type 0 where
 
 -- the mark words of each meter in a book's tables
 abbrev pub marks_of : Tables → List (List ℕ)
-marks_of tables = map (λ row. row.marks) (vec_items tables.rows)
+marks_of tables = map (λ row. row.marks) (tables.rows.value)
+
+-- the mark words of one meter
+abbrev pub words_of : Tables → (meter : ℕ) → List ℕ
+words_of tables meter = slice_index_or (marks_of tables) meter []
 
 -- the contents of a book with these tables and a source of these weights
 abbrev pub contents_of : Tables → (weights : List ℕ) → Contents
 contents_of tables weights =
-    record { marks = marks_of tables; sums = vec_items tables.sums; weights = weights }
+    record { marks = marks_of tables; sums = tables.sums.value; weights = weights }
 
 module _ (contents : Contents) where
   -- the mark words of a meter

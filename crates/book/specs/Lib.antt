@@ -4,3 +4,4 @@ pub mod Marks
 pub mod Faults
 pub mod Contents
 pub mod Answers
+pub mod OfBook

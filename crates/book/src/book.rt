@@ -1,10 +1,5 @@
-ghost use Rattle.std.specs.Prelude.{◌≡◌, ◌-◌, ◌≤◌, IfOk, vec_len, MatchResult, slice_index};
-ghost use Rattle.weights.specs.Answers.{ask_refusal, zero_weights};
-ghost use Rattle.weights.specs.Limits.{meter_count};
-ghost use Rattle.book.specs.Answers.{Answered, Booked, Carried, Opened};
-ghost use Rattle.book.specs.Contents.{contents_of, count_at, lacked_below, marked_at, marks_of, sum_at, words_at};
-ghost use Rattle.book.specs.Limits.{greatest_sum, hour_count};
-ghost use Rattle.book.specs.Marks.{Bounded, EndsBy};
+ghost use Rattle.book.specs.Contents.{marks_of};
+ghost use Rattle.book.specs.Marks.{Bounded};
 
 use crate::fault::BookFault;
 use crate::limits::HOURS;
@@ -17,18 +12,25 @@ use weights::{MAX_AMOUNT, METERS, WeightSource};
 pub struct Book<S: WeightSource> {
     source: S,
     tables: Tables,
-    ghost rows: { vec_len tables.rows ≡ meter_count },
-    ghost sums: { vec_len tables.sums ≡ hour_count },
-    ghost bounded: { Bounded (marks_of tables) tables.sums.items },
+    ghost bounded: { Bounded (marks_of tables) tables.sums.value },
 }
 
 impl<S: WeightSource> Book<S> {
+    ghost use Rattle.std.specs.Prelude.{◌≡◌, ◌-◌, ◌≤◌, IfOk, MatchResult, slice_index};
+    ghost use Rattle.weights.specs.Answers.{ask_refusal, zero_weights};
+    ghost use Rattle.book.specs.Answers.{Answered, Booked, Carried, Opened};
+    ghost use Rattle.book.specs.Contents.{count_at, lacked_below, marked_at, sum_at, words_at};
+    ghost use Rattle.book.specs.Limits.{greatest_sum};
+    ghost use Rattle.book.specs.Marks.{EndsBy};
+    ghost use Rattle.book.specs.OfBook.{book_contents};
+
     /// Opens a book over the source, which is reset. Want of memory hands the source back, reset.
     pub fn open(heap: Global, mut source: S) -> Result<Book<S>, (AllocError, S)>
-        ensures opened { MatchResult result (λ book. Opened (contents_of book.tables (S.weights book.source))) (λ e. S.weights e.1 ≡ zero_weights) }
+        ensures opened { MatchResult result (λ book. Opened (book_contents book)) (λ e. S.weights e.1 ≡ zero_weights) }
         ensures joining { MatchResult result (λ book. S.joining book.source ≡ S.joining source) (λ e. S.joining e.1 ≡ S.joining source) }
     {
         source.reset();
+        // A match, since either outcome takes the source, which one closure alone could.
         match Tables::empty(heap) {
             Ok(tables) => Ok(Book { source, tables }),
             Err(refused) => Err((refused, source)),
@@ -38,7 +40,7 @@ impl<S: WeightSource> Book<S> {
     /// Notes a meter's carried peak in the source. Refused as the source refuses it: with 3 for a meter above 63 or an
     /// amount above 20,000, then with 6 where the weight would pass 15,000,000.
     pub fn carry(&mut self, meter: u64, amount: u64) -> Result<(), BookFault>
-        ensures carried { Carried (S.joining self.old.source) (contents_of self.old.tables (S.weights self.old.source)) meter amount result (contents_of self.new.tables (S.weights self.new.source)) }
+        ensures carried { Carried (S.joining self.old.source) (book_contents self.old) meter amount result (book_contents self.new) }
         ensures joining { S.joining self.new.source ≡ S.joining self.old.source }
     {
         Ok(self.source.note(meter, amount)?)
@@ -47,7 +49,7 @@ impl<S: WeightSource> Book<S> {
     /// Books an amount of a meter in an hour. Refused with 3 for a meter above 63, an hour above 744 or an amount above
     /// 20,000, then with 5 for an hour that the meter already has, then with 6 where the weight would pass 15,000,000.
     pub fn book(&mut self, meter: u64, hour: u64, amount: u64) -> Result<(), BookFault>
-        ensures booked { Booked (S.joining self.old.source) (contents_of self.old.tables (S.weights self.old.source)) meter hour amount result (contents_of self.new.tables (S.weights self.new.source)) }
+        ensures booked { Booked (S.joining self.old.source) (book_contents self.old) meter hour amount result (book_contents self.new) }
         ensures joining { S.joining self.new.source ≡ S.joining self.old.source }
     {
         if meter >= METERS as u64 || hour >= HOURS as u64 || amount > MAX_AMOUNT {
@@ -64,25 +66,26 @@ impl<S: WeightSource> Book<S> {
     /// How many of a month's hours the meter still misses, counted from its marks: where it has no hour past the month,
     /// the hours below its end that it does not have. Refused with 3 for a meter above 63.
     pub fn missing(&self, meter: u64, hours: u64) -> Result<u64, BookFault>
-        ensures answer { Answered (ask_refusal meter) (hours - count_at (contents_of self.now.tables (S.weights self.now.source)) meter) result }
-        ensures lacked { IfOk result (λ n. EndsBy (words_at (contents_of self.now.tables (S.weights self.now.source)) meter) hours → n ≡ lacked_below (contents_of self.now.tables (S.weights self.now.source)) meter hours) }
+        ensures answer { Answered (ask_refusal meter) (hours - count_at (book_contents self.now) meter) result }
+        ensures lacked { IfOk result (λ n. EndsBy (words_at (book_contents self.now) meter) hours → n ≡ lacked_below (book_contents self.now) meter hours) }
     {
-        match self.tables.count(meter as usize) {
-            Some(count) => Ok(hours.saturating_sub(count)),
-            None => Err(BookFault::OutOfRange),
-        }
+        let count = self
+            .tables
+            .count(meter as usize)
+            .ok_or(BookFault::OutOfRange)?;
+        Ok(hours.saturating_sub(count))
     }
 
     /// Whether the meter has the hour.
     pub fn is_marked(&self, meter: u64, hour: u64) -> bool
-        ensures { result ≡ marked_at (contents_of self.now.tables (S.weights self.now.source)) meter hour }
+        ensures { result ≡ marked_at (book_contents self.now) meter hour }
     {
         self.tables.is_marked(meter as usize, hour as usize)
     }
 
     /// The sum of the hour: zero for an hour above 744.
     pub fn sum(&self, hour: u64) -> u64
-        ensures value { result ≡ sum_at (contents_of self.now.tables (S.weights self.now.source)) hour }
+        ensures value { result ≡ sum_at (book_contents self.now) hour }
         ensures bound { result ≤ greatest_sum }
     {
         self.tables.sum(hour as usize)

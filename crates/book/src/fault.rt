@@ -20,6 +20,7 @@ impl BookFault {
     pub fn number(&self) -> u8
         ensures { result ≡ number_of self.now }
     {
+        // A match, since `as` takes no enum whose variants have fields.
         match self {
             BookFault::OutOfRange => 3,
             BookFault::AlreadyBooked => 5,

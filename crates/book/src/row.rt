@@ -24,10 +24,9 @@ impl Row {
     pub(crate) fn is_marked(&self, hour: usize) -> bool
         ensures { result ≡ is_marked self.now.marks hour }
     {
-        match self.marks.get(hour / WORD_HOURS) {
-            Some(word) => (*word >> (hour % WORD_HOURS)) % 2 == 1,
-            None => false,
-        }
+        self.marks
+            .get(hour / WORD_HOURS)
+            .is_some_and(|word| (word >> (hour % WORD_HOURS)) % 2 == 1)
     }
 
     /// Marks an hour that is not marked yet.
@@ -45,6 +44,7 @@ impl Row {
         ensures ones { result ≡ ones_of self.now.marks }
         ensures hours { (hours : ℕ) → EndsBy self.now.marks hours → result ≡ marked_below self.now.marks hours }
     {
+        // A loop: as map and sum the bound on the total is not proved.
         let mut count = 0;
         for word in &self.marks {
             count += u64::from(word.count_ones());

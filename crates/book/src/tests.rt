@@ -3,18 +3,12 @@ use std::test::Fail;
 use weights::{Adding, WeightSource};
 
 fn opened(rt: &HostRuntime) -> Result<Book<Adding>, Fail> {
-    match Book::open(rt.alloc(), Adding::new()) {
-        Ok(book) => Ok(book),
-        Err(_) => Err(Fail::new("no memory")),
-    }
+    Book::open(rt.alloc(), Adding::new()).map_err(|_| Fail::new("no memory"))
 }
 
 // The number of a refusal, or 0.
 fn number(res: Result<(), BookFault>) -> u8 {
-    match res {
-        Ok(()) => 0,
-        Err(fault) => fault.number(),
-    }
+    res.err().map_or(0, |fault| fault.number())
 }
 
 #[test]

@@ -1,25 +1,20 @@
 -- The fee that a request asks for, through the calls of a plan. Assumes nothing.
-use Rattle.std.specs.Prelude.{◌≡◌, ℕ, ◌*◌, cond, Some, None, Option, ◌==◌}
+use Rattle.std.specs.Prelude.{ℕ, ◌*◌, cond, Some, None, Option, ◌==◌}
 use Rattle.calendar.specs.Calendar.{billed_days, days_of_year}
 use Rattle.plan.specs.Calls.{PlanCall, SetPeriod, AddSegment, refusal_of, after_call}
 use Rattle.plan.specs.Contents.{PeriodNumbers, nothing}
-use Rattle.plan.specs.Faults.{number_of as number_of_plan}
-use Rattle.tariff.specs.Faults.{number_of as number_of_tariff}
+use Rattle.calculator.specs.declared.fees.FeeRequest.{FeeRequest}
 use Rattle.tariff.specs.Fees.{exact_fee, fee_refusal, nearest, season_of}
 use Rattle.tariff.specs.declared.service.Service.{Service}
 use Rattle.tariff.specs.declared.service.Service.TheVariants.{FullYear, PartYear, PartMonth}
-use Rattle.calculator.specs.declared.fees.FeeFault.{FeeFault}
-use Rattle.calculator.specs.declared.fees.FeeFault.TheVariants.{Plan, Tariff}
-
--- the number of each refusal; want of memory has none
-abbrev pub number_of : FeeFault → Option ℕ
-number_of (Plan fault) = number_of_plan fault
-number_of (Tariff fault) = Some (number_of_tariff fault)
 
 -- the first number, if there is one, else the second
 abbrev pub or_else : Option ℕ → Option ℕ → Option ℕ
 or_else None second = second
 or_else (Some number) second = Some number
+
+abbrev pub asked_period : FeeRequest → PeriodNumbers
+asked_period r = record { year = r.year; month = r.month; hours = r.hours }
 
 -- the plan call for segment 0 under these terms; a fee does not depend on the factor
 abbrev pub terms_call : ℕ → ℕ → PlanCall
@@ -30,11 +25,6 @@ abbrev pub fee_number : PeriodNumbers → ℕ → ℕ → ℕ → Option ℕ
 fee_number p service tariff capacity =
     or_else (refusal_of nothing (SetPeriod p))
     (or_else (refusal_of (after_call nothing (SetPeriod p)) (terms_call service tariff)) (fee_refusal capacity))
-
--- a fault tells the number of the refusal; want of memory tells none
-abbrev pub Tells : Option ℕ → Option ℕ → Type 0
-Tells None refusal = Unit {0}
-Tells (Some number) refusal = refusal ≡ Some number
 
 -- the service of a number that the plan takes
 abbrev pub service_of : ℕ → Service

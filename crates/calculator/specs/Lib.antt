@@ -1,3 +1,4 @@
+pub mod Faults
 pub mod FeeRequests
 pub mod Replies
 pub mod Requests

@@ -1,31 +1,26 @@
-// Replies to requests for a cut.
-ghost use Rattle.std.specs.Prelude.{IfOk};
+// Requests for a cut.
+ghost use Rattle.std.specs.Prelude.{◌<◌, length, drop, slice_index};
 ghost use Rattle.apportion.specs.Cutting.{most_weights, refusal};
-ghost use Rattle.calculator.specs.Requests.{Says};
+ghost use Rattle.calculator.specs.Requests.{Replies};
 
-use crate::lines::refused_with;
+use crate::fault::RequestFault;
 use crate::numbers::spaced_line;
-use crate::reply::Reply;
 use apportion::{CutRule, share_out};
-use std::alloc::{AllocError, Global};
+use std::alloc::Global;
 
-// The shares of a total by weights under a rule, or the number of the refusal.
-pub(crate) fn reply_to_cut<R: CutRule>(
+// The shares under a rule: of a total, by at least one weight.
+pub(crate) fn cut_by<R: CutRule>(
     heap: Global,
     rule: &R,
-    total: u64,
-    weights: &[u64],
-) -> Result<Reply, AllocError>
-    ensures { IfOk result (λ reply. Says reply (refusal R.greatest total weights.now most_weights) (R.shares rule.now total weights.now)) }
+    numbers: &[u64],
+) -> Result<String, RequestFault>
+    ensures { Replies (1 < length numbers.now) (refusal R.GREATEST (slice_index numbers.now 0) (drop 1 numbers.now) most_weights) (R.shares rule.now (slice_index numbers.now 0) (drop 1 numbers.now)) result }
 {
-    match share_out(rule, total, weights) {
-        Ok(places) => {
-            let line = spaced_line(heap, &places[0..weights.len()])?;
-            Ok(Reply {
-                line,
-                refused: false,
-            })
+    match numbers {
+        [total, weights @ ..] if !weights.is_empty() => {
+            let places = share_out(rule, *total, weights)?;
+            Ok(spaced_line(heap, &places[..weights.len()])?)
         }
-        Err(fault) => refused_with(heap, fault.number()),
+        _ => Err(RequestFault::BadUsage),
     }
 }

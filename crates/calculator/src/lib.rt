@@ -2,14 +2,13 @@
 #![tactic(auto)]
 
 mod cuts;
+mod fault;
 mod fees;
-mod lines;
 mod numbers;
 mod prices;
-mod reply;
 mod request;
 #[cfg(test)]
 mod tests;
 
-pub use reply::Reply;
+pub use fault::RequestFault;
 pub use request::reply_to;

@@ -1,21 +1,21 @@
 // Numbers from words, and a line of numbers.
-ghost use Rattle.std.specs.Prelude.{◌≡◌, ℕ, List, IfOk, string_bytes, MatchOption};
+ghost use Rattle.std.specs.Prelude.{◌≡◌, IfOk, string_bytes, MatchResult};
 ghost use Rattle.calculator.specs.Replies.{WriteAll, spaced};
+ghost use Rattle.calculator.specs.Requests.{Unread};
 
+use crate::fault::RequestFault;
 use std::alloc::{AllocError, Global};
+use std::fmt::Write;
 
-// The numbers that the words write, or nothing where a word writes none that 64 bits hold.
-pub(crate) fn read_numbers(heap: Global, words: &[String]) -> Result<Option<Vec<u64>>, AllocError>
-    ensures { IfOk result (λ o. MatchOption o ((ns : List ℕ) → WriteAll words.now ns → ⊥) (λ v. WriteAll words.now v.items)) }
+// The numbers that the words write. A word that writes none that 64 bits hold makes no request.
+pub(crate) fn read_numbers(heap: Global, words: &[String]) -> Result<Vec<u64>, RequestFault>
+    ensures { MatchResult result (λ v. WriteAll words.now v.items) (Unread words.now) }
 {
     let mut numbers = Vec::new(heap);
     for word in words {
-        let Ok(number) = word.as_str().parse::<u64>() else {
-            return Ok(None);
-        };
-        numbers.push(number)?;
+        numbers.push(word.as_str().parse::<u64>()?)?;
     }
-    Ok(Some(numbers))
+    Ok(numbers)
 }
 
 // The numbers on one line, parted by blanks.
@@ -27,7 +27,7 @@ pub(crate) fn spaced_line(heap: Global, numbers: &[u64]) -> Result<String, Alloc
         if i > 0 {
             line.push_str(" ")?;
         }
-        line.push_str(number.to_string(heap)?.as_str())?;
+        write!(line, "{number}")?;
     }
     Ok(line)
 }

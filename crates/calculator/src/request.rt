@@ -1,48 +1,33 @@
 // From the words of a request to its reply.
-ghost use Rattle.std.specs.Prelude.{◌<◌, length, drop, IfOk, MatchOption, slice_index};
-ghost use Rattle.apportion.specs.Cutting.{most_weights, refusal};
-ghost use Rattle.calculator.specs.Requests.{AnsweredBy, Asks, Named, Says};
+ghost use Rattle.calculator.specs.Requests.{AnsweredBy, Asks, Named};
 
-use crate::cuts::reply_to_cut;
+use crate::cuts::cut_by;
+use crate::fault::RequestFault;
 use crate::numbers::read_numbers;
 use crate::prices::{fee_by, total_by};
-use crate::reply::Reply;
-use apportion::{CutRule, LargestRemainder, RunningCut};
-use std::alloc::{AllocError, Global};
+use apportion::{LargestRemainder, RunningCut};
+use std::alloc::Global;
 
-// The reply to a request for a cut: a total and at least one weight.
-fn cut_by<R: CutRule>(heap: Global, rule: &R, numbers: &[u64]) -> Result<Option<Reply>, AllocError>
-    ensures { IfOk result (λ o. MatchOption o (length numbers.now < 2) (λ reply. Says reply (refusal R.greatest (slice_index numbers.now 0) (drop 1 numbers.now) most_weights) (R.shares rule.now (slice_index numbers.now 0) (drop 1 numbers.now)) × (1 < length numbers.now))) }
-{
-    if numbers.len() < 2 {
-        return Ok(None);
-    }
-    let reply = reply_to_cut(heap, rule, numbers[0], &numbers[1..])?;
-    Ok(Some(reply))
-}
-
-// The reply to a request by its name and its numbers, or nothing where there is none such.
-fn reply_by_name(heap: Global, name: &str, numbers: &[u64]) -> Result<Option<Reply>, AllocError>
-    ensures { IfOk result (AnsweredBy (Named name.now numbers.now)) }
+// The line that answers a request by its name and its numbers.
+fn reply_by_name(heap: Global, name: &str, numbers: &[u64]) -> Result<String, RequestFault>
+    ensures { AnsweredBy (Named name.now numbers.now) result }
 {
     match name {
         "largest" => cut_by(heap, &LargestRemainder, numbers),
         "running" => cut_by(heap, &RunningCut, numbers),
         "total" => total_by(heap, numbers),
         "fee" => fee_by(heap, numbers),
-        _ => Ok(None),
+        _ => Err(RequestFault::BadUsage),
     }
 }
 
-// The reply to the words, or nothing where they make no request.
-pub fn reply_to(heap: Global, words: &[String]) -> Result<Option<Reply>, AllocError>
-    ensures { IfOk result (AnsweredBy (Asks words.now)) }
+// The line that answers the words.
+pub fn reply_to(heap: Global, words: &[String]) -> Result<String, RequestFault>
+    ensures { AnsweredBy (Asks words.now) result }
 {
     let [name, rest @ ..] = words else {
-        return Ok(None);
+        return Err(RequestFault::BadUsage);
     };
-    let Some(numbers) = read_numbers(heap, rest)? else {
-        return Ok(None);
-    };
+    let numbers = read_numbers(heap, rest)?;
     reply_by_name(heap, name.as_str(), &numbers)
 }

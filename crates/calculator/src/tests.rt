@@ -1,4 +1,4 @@
-use crate::reply_to;
+use crate::{RequestFault, reply_to};
 use std::alloc::{AllocError, Global};
 use std::process::Abort;
 use std::test::Fail;
@@ -17,12 +17,17 @@ fn words(heap: Global, text: &str) -> Result<Vec<String>, AllocError> {
 
 fn told(rt: &impl Abort, heap: Global, cases: &[Case]) -> Result<(), Fail> {
     for case in cases {
-        match reply_to(heap, &words(heap, case.0)?)? {
-            Some(reply) => {
-                assert!(rt; reply.line.as_str() == case.1);
-                assert_eq!(rt; reply.refused, case.2);
+        match reply_to(heap, &words(heap, case.0)?) {
+            Ok(line) => {
+                assert!(rt; line.as_str() == case.1);
+                assert!(rt; !case.2);
             }
-            None => assert!(rt; case.1.is_empty()),
+            Err(RequestFault::BadUsage) => assert!(rt; case.1.is_empty()),
+            Err(RequestFault::Memory) => return Err(Fail::from(AllocError)),
+            Err(refusal) => {
+                assert!(rt; refusal.to_string(heap)?.as_str() == case.1);
+                assert!(rt; case.2);
+            }
         }
     }
     Ok(())

@@ -1,3 +1,4 @@
 -- The definitions that the contracts of the calendar cite.
 pub mod Calendar
+pub mod OfPeriod
 pub mod Rounding

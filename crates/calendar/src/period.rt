@@ -1,6 +1,6 @@
 // The period that is settled: so many hours of a gas month.
 ghost use Rattle.std.specs.Prelude.{◌≡◌, ◌≤◌, true, false, Some, MatchOption};
-ghost use Rattle.calendar.specs.Calendar.{common_year, leap_year, first_year, last_year, last_month, longest_month, most_hours, days_of_month, days_of_year, billed_days, whole_month, takes_period};
+ghost use Rattle.calendar.specs.Calendar.{common_year, leap_year, first_year, last_year, last_month, longest_month, most_hours, days_of_month, days_of_year, takes_period};
 
 use crate::rules::{
     FIRST_YEAR, HOURS_OF_DAY, LAST_MONTH, LAST_YEAR, days_of_month, days_of_year, most_hours,
@@ -15,15 +15,20 @@ pub struct Period {
 }
 
 impl Period {
-    // The period, if it can be settled.
+    ghost use Rattle.calendar.specs.OfPeriod.{days_billed, is_whole};
+
+    // The period, if it can be settled. The numbers come one by one, as a date's do: what holds all three is what is made here.
     pub fn new(year: u32, month: u32, hours: u32) -> Option<Period>
         ensures cases { MatchOption result (takes_period year month hours ≡ false) (λ p. (takes_period year month hours ≡ true) × (p.year ≡ year) × (p.month ≡ month) × (p.hours ≡ hours)) }
         ensures only { (p : Period) → p.year ≡ year → p.month ≡ month → p.hours ≡ hours → result ≡ Some p }
     {
-        if year < FIRST_YEAR || year > LAST_YEAR || month < 1 || month > LAST_MONTH {
+        if !(FIRST_YEAR..=LAST_YEAR).contains(&year) {
             return None;
         }
-        if hours < 1 || hours > most_hours(year, month) {
+        if !(1..=LAST_MONTH).contains(&month) {
+            return None;
+        }
+        if !(1..=most_hours(year, month)).contains(&hours) {
             return None;
         }
         Some(Period { year, month, hours })
@@ -67,7 +72,7 @@ impl Period {
     }
 
     pub fn billed_days(&self) -> u32
-        ensures value { result ≡ billed_days self.now.year self.now.month self.now.hours }
+        ensures value { result ≡ days_billed self.now }
         ensures bound { (1 ≤ result) × (result ≤ longest_month) }
     {
         let begun = self.hours.div_ceil(HOURS_OF_DAY);
@@ -75,7 +80,7 @@ impl Period {
     }
 
     pub fn is_whole_month(&self) -> bool
-        ensures { result ≡ whole_month self.now.year self.now.month self.now.hours }
+        ensures { result ≡ is_whole self.now }
     {
         self.billed_days() == self.days()
     }

@@ -16,6 +16,7 @@ const LEAP_YEAR: u32 = 366;
 
 const LONGEST_MONTH: u32 = 31;
 
+// Months stay numbers: the rules single out a few, and an enum would name all twelve and be numbered again for the seasons.
 const MARCH: u32 = 3;
 
 const OCTOBER: u32 = 10;

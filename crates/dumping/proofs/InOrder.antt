@@ -2,7 +2,7 @@
 use Rattle.std.proofs.Common.{◌≡◌, ℕ, Bool, true, false, cond, List, [], ◌∷◌, ◌++◌, map, Some, None, Option, sym, refl, ap, ◌∙◌, subst, append_assoc}
 use Rattle.std.specs.Option.{option_to_list}
 use Rattle.std.proofs.lemmas.List.{append-nil, map_push}
-use Rattle.plan.specs.Calls.{PlanCall, SetPeriod, AddSegment, AddMeter, AddCarried, after_call, refusal_of}
+use Rattle.plan.specs.Calls.{PlanCall, SetPeriod, AddMeter, AddCarried, after_call, refusal_of}
 use Rattle.plan.specs.Contents.{Contents}
 use Rattle.plan.specs.Questions.{is_full}
 use Rattle.plan.specs.WellMade.{calls_of}
@@ -12,7 +12,7 @@ use Rattle.words.specs.declared.word.Word.{Word}
 use Rattle.words.specs.declared.word.Word.TheVariants.{Factor, Meter, Period, Carried as CarriedWord}
 use Rattle.monthfile.specs.declared.phase.Phase.{Phase}
 use Rattle.monthfile.specs.declared.phase.Phase.TheVariants.{Start, Segments, Terms, Meters, Peaks, Selected, Booked as BookedPhase}
-use Rattle.monthfile.specs.Judging.{call_of, plan_refusal, plan_after, phase_after, brought_by, Standing, beginning, Verdict, Faulty, Taken, judge}
+use Rattle.monthfile.specs.Judging.{call_of, plan_refusal, plan_after, phase_after, brought_by, Standing, beginning, terms_call, Verdict, Faulty, Taken, judge}
 use Rattle.monthfile.specs.Reading.{Reading, reading, gone_on, booking_of}
 use Rattle.monthfile.proofs.Allowed.{Allowed, allowed, period, segment, factor, meter, first_peak, next_peak, select_after_meters, select_after_peaks, select_anew, selected_amount, next_amount}
 use Rattle.monthfile.proofs.Backward.{passed}
@@ -30,11 +30,11 @@ records_of plan bs = map plan_record (calls_of plan) ++ map Booked bs
 abbrev NoneYet : Phase → List Booking → Type 0
 NoneYet Start bs = bs ≡ []
 NoneYet Segments bs = bs ≡ []
-NoneYet (Terms s v t) bs = bs ≡ []
+NoneYet (Terms given) bs = bs ≡ []
 NoneYet Meters bs = bs ≡ []
 NoneYet Peaks bs = bs ≡ []
-NoneYet (Selected s m h) bs = Unit {0}
-NoneYet (BookedPhase s m h) bs = Unit {0}
+NoneYet (Selected spot) bs = Unit {0}
+NoneYet (BookedPhase spot) bs = Unit {0}
 
 after_factor : (full : Bool) → NoneYet (cond full Meters Segments) []
 after_factor true = refl
@@ -68,9 +68,9 @@ adds (period {y} {m} {h}) plan bs tidy none_yet none =
     let call : PlanCall = SetPeriod (record { year = y; month = m; hours = h }) in
     subst (λ b. Goal Start plan (Period y m h) b) (sym none_yet) (tidy_kept plan tidy call none, refl, planned plan call tidy none)
 adds segment plan bs tidy none_yet none = (tidy, append-nil bs ∙ none_yet, unchanged plan bs)
-adds (factor {s} {v} {t} {u} {f} e) plan bs tidy none_yet none =
-    let call : PlanCall = AddSegment s (record { service = v; tariff = t; factor = f }) in
-    subst (λ b. Goal (Terms s v t) plan (Factor u f) b) (sym none_yet)
+adds (factor {given} {u} {f} e) plan bs tidy none_yet none =
+    let call : PlanCall = terms_call given f in
+    subst (λ b. Goal (Terms given) plan (Factor u f) b) (sym none_yet)
     (tidy_kept plan tidy call none, after_factor (is_full (after_call plan call)), planned plan call tidy none)
 adds (meter {s} {u} {p} {m}) plan bs tidy none_yet none =
     let call : PlanCall = AddMeter (record { segment = s; number = m; user = u; station = p }) in
@@ -84,10 +84,10 @@ adds (next_peak {m} {a}) plan bs tidy none_yet none =
 adds select_after_meters plan bs tidy none_yet none = (tidy, tt, unchanged plan bs)
 adds select_after_peaks plan bs tidy none_yet none = (tidy, tt, unchanged plan bs)
 adds (select_anew other) plan bs tidy none_yet none = (tidy, tt, unchanged plan bs)
-adds (selected_amount {s} {m} {h} {a}) plan bs tidy none_yet none =
-    (tidy, tt, booked plan bs (record { segment = s; meter = m; hour = h; amount = a }))
-adds (next_amount {s} {m} {h} {a}) plan bs tidy none_yet none =
-    (tidy, tt, booked plan bs (record { segment = s; meter = m; hour = h; amount = a }))
+adds (selected_amount {spot} {a}) plan bs tidy none_yet none =
+    (tidy, tt, booked plan bs (record { segment = spot.segment; meter = spot.meter; hour = spot.hour; amount = a }))
+adds (next_amount {spot} {a}) plan bs tidy none_yet none =
+    (tidy, tt, booked plan bs (record { segment = spot.segment; meter = spot.meter; hour = spot.hour; amount = a }))
 
 abbrev Collected : Standing → List Booking → List Record → Reading → Type 0
 Collected st bs records r = r.fault ≡ None → records_of st.plan bs ++ records ≡ records_of r.standing.plan (bs ++ r.bookings)

@@ -1,15 +1,14 @@
 -- The record of a word that was taken. Assumes nothing.
-use Rattle.std.proofs.Common.{◌≡◌, ℕ, Some, None, Ok, Option, sym, refl, ◌∙◌, subst}
+use Rattle.std.proofs.Common.{◌≡◌, ℕ, Some, None, Ok, Option, sym, refl, ◌∙◌}
 use Rattle.std.specs.Option.{option_map}
 use Rattle.plan.specs.Calls.{PlanCall}
 use Rattle.plan.specs.declared.booking.Booking.{Booking}
-use Rattle.words.specs.Layout.{Decoded}
+use Rattle.words.specs.Layout.{FieldsFit, encoded}
 use Rattle.words.specs.declared.word.Word.{Word}
-use Rattle.words.proofs.Reading.{encoded-injective}
 use Rattle.monthfile.specs.declared.brought.Brought.{Brought}
 use Rattle.monthfile.specs.declared.brought.Brought.TheVariants.{Nothing, Opening, Offtake}
 use Rattle.monthfile.specs.Faults.{Stepped}
-use Rattle.monthfile.specs.Judging.{Standing, Taken, call_of, judge}
+use Rattle.monthfile.specs.Judging.{Standing, call_of}
 use Rattle.lines.specs.declared.record.Record.{Record}
 use Rattle.lines.specs.declared.record.Record.TheVariants.{Booked}
 use Rattle.dumping.specs.Records.{WordTaken, completed, plan_record}
@@ -27,19 +26,11 @@ pub booking_taken : (before : Standing) (place bits : ℕ) (b : Booking) (after 
 booking_taken before place bits b after (None, decoded, never) = absurd never
 booking_taken before place bits b after (Some word, decoded, is) = (word, Offtake b, decoded, is, refl)
 
+-- where the bits are read again, their word has the record of its plan call
 pub call_taken : (before : Standing) (place bits : ℕ) (brought : Brought) (after : Standing) → Stepped before place bits (Ok brought) after → NoBooking brought
-    → (found : Word) → Decoded bits (Some found) → (told : Option Record) → told ≡ option_map plan_record (call_of before.phase found)
+    → (found : Option Word) → ((word : Word) → FieldsFit word → encoded word ≡ bits → found ≡ Some word)
+    → (told : Option Record) → ((word : Word) → found ≡ Some word → told ≡ option_map plan_record (call_of before.phase word))
     → WordTaken before place bits (Ok told) after
-call_taken before place bits brought after (None, decoded, never) none found has told is = absurd never
-call_taken before place bits brought after (Some word, decoded, judged) none found has told is =
-    let same : word ≡ found = encoded-injective word found decoded.0 has.0 (decoded.1 ∙ sym has.1) in (
-      found,
-      brought,
-      has,
-      subst (λ w. judge before w ≡ Taken after brought) same judged,
-      is ∙ sym (planned_only (call_of before.phase found) brought none),
-    )
-
-pub some_word : (before : Standing) (place bits : ℕ) (brought : Brought) (after : Standing) → Stepped before place bits (Ok brought) after → Decoded bits None → ⊥
-some_word before place bits brought after (None, decoded, never) no_word = never
-some_word before place bits brought after (Some word, decoded, judged) no_word = no_word word decoded.0 decoded.1
+call_taken before place bits brought after (None, decoded, never) none found back told is = absurd never
+call_taken before place bits brought after (Some word, decoded, judged) none found back told is =
+    (word, brought, decoded, judged, is word (back word decoded.0 decoded.1) ∙ sym (planned_only (call_of before.phase word) brought none))

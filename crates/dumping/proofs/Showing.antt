@@ -6,7 +6,10 @@ use Rattle.std.proofs.lemmas.Bool.{false≢true}
 use Rattle.lines.specs.Lines.{record_line}
 use Rattle.lines.specs.declared.record.Record.{Record}
 use Rattle.plan.specs.declared.booking.Booking.{Booking}
-use Rattle.words.specs.Bytes.{last_number, number_at}
+use Rattle.words.specs.Bytes.{last_number, number_at, words_of}
+use Rattle.words.specs.Windows.{Advanced}
+use Rattle.words.specs.declared.window.Window.{Window}
+use Rattle.words.proofs.Numbering.{shown}
 use Rattle.words.specs.declared.word.Word.{Word}
 use Rattle.monthfile.specs.declared.fault.ReadFault.{ReadFault}
 use Rattle.monthfile.specs.Faults.{told}
@@ -152,6 +155,29 @@ module _ (before : Standing) (place : ℕ) (all earlier : List ℕ) (small : pla
             lines-on before place so_far.read.words one.read.words so_far.bookings earlier text longer after so_far.read.left so_far.shown
             (one.shown sufficed);
       }
+
+-- what has been shown of a block where a window stands
+abbrev pub ShownTo : Standing → ℕ → List ℕ → List ℕ → Window → List ℕ → Standing → Type 0
+ShownTo before place all earlier window text after = ShownSoFar before place all earlier (words_of window.rest.now) window.number text after
+
+module _ (before : Standing) (place : ℕ) (all earlier : List ℕ) (small : place ≤ last_number) (window left : Window) (number bits : ℕ) (text longer : List ℕ) (after end : Standing) (step : Advanced window (number, bits) left) (so_far : ShownTo before place all earlier window text after) where
+  next : (words_of window.rest.now ≡ bits ∷ words_of left.rest.now) × (number ≡ window.number)
+  next = shown window.number left.number (words_of window.rest.now) (words_of left.rest.now) number bits step.shows
+
+  here : ShownSoFar before place all earlier (bits ∷ words_of left.rest.now) window.number text after
+  here = subst (λ ws. ShownSoFar before place all earlier ws window.number text after) next.0 so_far
+
+  -- one word more, as a window shows it
+  pub window_more : BlockShown after number (bits ∷ []) text (Ok tt) longer end → ShownTo before place all earlier left longer end
+  window_more one =
+      one_more_shown before place all earlier small bits (words_of left.rest.now) window.number text longer after end here left.number
+      (subst (λ n. BlockShown after n (bits ∷ []) text (Ok tt) longer end) next.1 one) step.counts
+
+  -- stopped at the word that a window shows
+  pub window_stopped : (fault : ReadFault) → BlockShown after number (bits ∷ []) text (Err fault) longer end → BlockShown before place all earlier (Err fault) longer end
+  window_stopped fault one =
+      stopped_shown before place all earlier small bits (words_of left.rest.now) window.number text longer after end here fault
+      (subst (λ n. BlockShown after n (bits ∷ []) text (Err fault) longer end) next.1 one)
 
 -- shown to the end
 pub all_shown : (before : Standing) (place : ℕ) (all earlier : List ℕ) → place ≤ last_number → (number : ℕ) (others text : List ℕ) (after : Standing)

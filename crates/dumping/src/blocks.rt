@@ -13,13 +13,10 @@ use words::Window;
 fn dump_word(reader: &mut Reader, place: u64, bits: u32, text: &mut String) -> Result<(), ReadFault>
     ensures { BlockShown (standing_of reader.old) place (bits ∷ []) (string_bytes text.old) result (string_bytes text.new) (standing_of reader.new) }
 {
-    let Some(record) = take_word(reader, place, bits)? else {
-        return Ok(());
-    };
-    match writeln!(text, "{record}") {
-        Ok(()) => Ok(()),
-        Err(_) => Err(ReadFault::Memory),
+    if let Some(record) = take_word(reader, place, bits)? {
+        writeln!(text, "{record}")?;
     }
+    Ok(())
 }
 
 // Takes the words of a block, the first of them at this place, and adds a line to the text for each record, up to the first fault.
@@ -33,8 +30,7 @@ pub fn dump_block(
     ensures blocks { RecordsBlockByBlock }
     ensures order { RecordsOfFile }
 {
-    let mut window = Window::new(block, first);
-    while let Some((place, bits)) = window.next() {
+    for (place, bits) in Window::new(block, first) {
         dump_word(reader, place, bits, text)?;
     }
     Ok(())

@@ -1,7 +1,7 @@
 // Takes a file word by word, and tells the record that each completes.
 ghost use Rattle.std.specs.Prelude.{◌≡◌};
 ghost use Rattle.std.specs.Option.{option_map};
-ghost use Rattle.monthfile.specs.Judging.{call_of, segment_call};
+ghost use Rattle.monthfile.specs.Judging.{call_of};
 ghost use Rattle.monthfile.specs.View.{standing_of};
 ghost use Rattle.dumping.specs.Records.{WordTaken, plan_record};
 
@@ -14,40 +14,32 @@ use words::Word;
 fn plan_record(phase: Phase, word: Word) -> Option<Record>
     ensures { result ≡ option_map plan_record (call_of phase word) }
 {
-    match word {
-        Word::Period { year, month, hours } => Some(Record::Period { year, month, hours }),
-        Word::Factor { factor, .. } => terms_record(phase, factor),
-        Word::Meter {
-            segment,
-            user,
-            station,
-            meter,
-        } => Some(Record::Assigned(Meter {
+    match (word, phase) {
+        (Word::Period { year, month, hours }, _) => Some(Record::Period { year, month, hours }),
+        // A segment is complete with its factor.
+        (Word::Factor { factor, .. }, Phase::Terms(given)) => Some(Record::Terms {
+            segment: given.segment,
+            service: given.service,
+            tariff: given.tariff,
+            factor,
+        }),
+        (
+            Word::Meter {
+                segment,
+                user,
+                station,
+                meter,
+            },
+            _,
+        ) => Some(Record::Assigned(Meter {
             segment,
             number: meter,
             user,
             station,
         })),
-        Word::Carried { meter, amount } => Some(Record::Carried(CarriedPeak { meter, amount })),
-        Word::Segment { .. } | Word::Select { .. } | Word::Amount { .. } => None,
-    }
-}
-
-// A segment is complete with its factor.
-fn terms_record(phase: Phase, factor: u32) -> Option<Record>
-    ensures { result ≡ option_map plan_record (segment_call phase factor) }
-{
-    match phase {
-        Phase::Terms {
-            segment,
-            service,
-            tariff,
-        } => Some(Record::Terms {
-            segment,
-            service,
-            tariff,
-            factor,
-        }),
+        (Word::Carried { meter, amount }, _) => {
+            Some(Record::Carried(CarriedPeak { meter, amount }))
+        }
         _ => None,
     }
 }
@@ -61,11 +53,8 @@ pub(crate) fn take_word(
     ensures { WordTaken (standing_of reader.old) place bits result (standing_of reader.new) }
 {
     let phase = reader.phase();
-    if let Brought::Offtake(booking) = reader.step(place, bits)? {
-        return Ok(Some(Record::Booked(booking)));
+    match reader.step(place, bits)? {
+        Brought::Offtake(booking) => Ok(Some(Record::Booked(booking))),
+        _ => Ok(Word::decode(bits).and_then(|word| plan_record(phase, word))),
     }
-    let Some(word) = Word::decode(bits) else {
-        return Ok(None);
-    };
-    Ok(plan_record(phase, word))
 }

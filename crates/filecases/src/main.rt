@@ -19,7 +19,13 @@ const EACH_KIND: [u32; 13] = [
     0x3C0003E8, 0x40000000, 0x700001F4, 0x50000000, 0x6000012C,
 ];
 
-// How many words of it come before the carried peak.
+// A word of each kind, known or not.
+const KINDS: [u32; 16] = [
+    0x00000000, 0x17E67002, 0x20000000, 0x30000000, 0x40000001, 0x50000005, 0x60000000, 0x700001F4,
+    0x80000000, 0x90000000, 0xA0000000, 0xB0000000, 0xC0000000, 0xD0000000, 0xE0000000, 0xF0000000,
+];
+
+// How many words of EACH_KIND come before the carried peak.
 const METERS: usize = 10;
 
 fn bytes_of(heap: Global, words: &[u32]) -> Result<Vec<u8>, AllocError> {
@@ -76,168 +82,155 @@ fn show_spare_bits(rt: &HostRuntime, place: usize, low: u32, end: u32) -> anyhow
 }
 
 fn show_all_spare_bits(rt: &HostRuntime) -> anyhow::Result<()> {
-    show_spare_bits(rt, 0, 10, 12)?;
-    show_spare_bits(rt, 1, 14, 24)?;
-    show_spare_bits(rt, 2, 11, 26)?;
-    show_spare_bits(rt, 9, 6, 18)?;
-    show_spare_bits(rt, 10, 15, 20)?;
-    show_spare_bits(rt, 10, 26, 28)?;
-    show_spare_bits(rt, 11, 10, 20)?;
-    show_spare_bits(rt, 12, 15, 28)
+    let fields = [
+        (0, 10, 12),
+        (1, 14, 24),
+        (2, 11, 26),
+        (9, 6, 18),
+        (10, 15, 20),
+        (10, 26, 28),
+        (11, 10, 20),
+        (12, 15, 28),
+    ];
+    for (place, low, end) in fields {
+        show_spare_bits(rt, place, low, end)?;
+    }
+    Ok(())
 }
 
 // Each kind, known or not, after so many words of a file.
 fn show_kinds(rt: &HostRuntime, phase: &str, count: usize) -> anyhow::Result<()> {
     let mut front = EACH_KIND.to_vec(rt.alloc())?;
     front.truncate(count);
-    for kind in 0u32..16 {
+    for (kind, word) in KINDS.iter().enumerate() {
         let label = format!(in rt.alloc(); "kind {kind} in phase {phase}")?;
-        let word = match kind {
-            1 => 0x17E67002,
-            4 => 0x40000001,
-            5 => 0x50000005,
-            7 => 0x700001F4,
-            _ => kind.wrapping_shl(28),
-        };
-        show_words(rt, label.as_str(), front.as_slice(), &[word])?;
+        show_words(rt, label.as_str(), front.as_slice(), &[*word])?;
     }
     Ok(())
 }
 
 fn show_all_phases(rt: &HostRuntime) -> anyhow::Result<()> {
-    show_kinds(rt, "start", 0)?;
-    show_kinds(rt, "segments", 1)?;
-    show_kinds(rt, "factor due", 2)?;
-    show_kinds(rt, "meters", METERS)?;
-    show_kinds(rt, "carried", 11)?;
-    show_kinds(rt, "selected", 12)?;
-    show_kinds(rt, "bookings", 13)
+    let phases = [
+        ("start", 0),
+        ("segments", 1),
+        ("factor due", 2),
+        ("meters", METERS),
+        ("carried", 11),
+        ("selected", 12),
+        ("bookings", 13),
+    ];
+    for (phase, count) in phases {
+        show_kinds(rt, phase, count)?;
+    }
+    Ok(())
 }
 
 // Order and limits of selects and amounts.
 fn show_selections(rt: &HostRuntime) -> anyhow::Result<()> {
-    let plan = &EACH_KIND[0..METERS];
-    show_words(rt, "a select twice", plan, &[0x50000000, 0x50000000])?;
-    show_words(
-        rt,
-        "another select after a select",
-        plan,
-        &[0x50000000, 0x50000001],
-    )?;
-    show_words(
-        rt,
-        "a redundant select",
-        plan,
-        &[0x50000000, 0x60000001, 0x50000001],
-    )?;
-    show_words(
-        rt,
-        "the same hour again",
-        plan,
-        &[0x50000000, 0x60000001, 0x50000000, 0x60000001],
-    )?;
-    show_words(rt, "hour 744", plan, &[0x500002E8, 0x60000001])?;
-    show_words(rt, "hour 745", plan, &[0x500002E9, 0x60000001])?;
-    show_words(rt, "hour 800", plan, &[0x50000320, 0x60000001])?;
-    show_words(
-        rt,
-        "an amount at 745",
-        plan,
-        &[0x500002E8, 0x60000001, 0x60000001],
-    )?;
-    show_words(
-        rt,
-        "a select of 745 at 745",
-        plan,
-        &[0x500002E8, 0x60000001, 0x500002E9],
-    )?;
-    show_words(
-        rt,
-        "a select after 744",
-        plan,
-        &[0x500002E8, 0x60000001, 0x50000000, 0x60000001],
-    )?;
-    show_words(rt, "the greatest amount", plan, &[0x50000000, 0x60007FFF])?;
-    show_words(rt, "an end after a select", plan, &[0x50000000])
+    let cases: [(&str, &[u32]); 12] = [
+        ("a select twice", &[0x50000000, 0x50000000]),
+        ("another select after a select", &[0x50000000, 0x50000001]),
+        ("a redundant select", &[0x50000000, 0x60000001, 0x50000001]),
+        (
+            "the same hour again",
+            &[0x50000000, 0x60000001, 0x50000000, 0x60000001],
+        ),
+        ("hour 744", &[0x500002E8, 0x60000001]),
+        ("hour 745", &[0x500002E9, 0x60000001]),
+        ("hour 800", &[0x50000320, 0x60000001]),
+        ("an amount at 745", &[0x500002E8, 0x60000001, 0x60000001]),
+        (
+            "a select of 745 at 745",
+            &[0x500002E8, 0x60000001, 0x500002E9],
+        ),
+        (
+            "a select after 744",
+            &[0x500002E8, 0x60000001, 0x50000000, 0x60000001],
+        ),
+        ("the greatest amount", &[0x50000000, 0x60007FFF]),
+        ("an end after a select", &[0x50000000]),
+    ];
+    for (label, rest) in cases {
+        show_words(rt, label, &EACH_KIND[..METERS], rest)?;
+    }
+    Ok(())
 }
 
-// Order and values of the plan's words.
-fn show_plans(rt: &HostRuntime) -> anyhow::Result<()> {
-    let period = &EACH_KIND[0..1];
-    let terms = &EACH_KIND[0..9];
-    show_words(rt, "a second period", period, &[0x17E67002])?;
-    show_words(rt, "segment 1 first", period, &[0x2400042B, 0x340003E8])?;
-    show_words(
-        rt,
-        "segment 2 before 1",
-        &EACH_KIND[0..3],
-        &[0x2800042B, 0x380003E8],
-    )?;
-    show_words(
-        rt,
-        "segment 0 again",
-        &EACH_KIND[0..3],
-        &[0x2000042B, 0x300003E8],
-    )?;
-    show_words(
-        rt,
-        "a factor of another segment",
-        period,
-        &[0x2000042B, 0x340003E8],
-    )?;
-    show_words(rt, "tariff 10000", period, &[0x20002710, 0x300003E8])?;
-    show_words(rt, "factor 2001", period, &[0x2000042B, 0x300007D1])?;
-    show_words(
-        rt,
-        "service 1 for a part of the month",
-        period,
-        &[0x2100042B, 0x300003E8],
-    )?;
-    show_words(
-        rt,
-        "service 2 for a part of the month",
-        period,
-        &[0x2200042B, 0x300003E8],
-    )?;
-    show_words(rt, "a plan with no meter", terms, &[])?;
-    show_words(rt, "a meter again", terms, &[0x40000000, 0x40400000])?;
-    show_words(
-        rt,
-        "a meter of a lower segment",
-        terms,
-        &[0x44000000, 0x40000000],
-    )?;
-    show_words(
-        rt,
-        "a meter after a carried peak",
-        &EACH_KIND[0..11],
-        &[0x40000001],
-    )?;
-    show_words(
-        rt,
-        "a carried peak of no meter",
-        terms,
-        &[0x40000000, 0x701001F4],
-    )?;
-    show_words(rt, "a carried peak of 0", terms, &[0x40000000, 0x70000000])?;
-    show_words(
-        rt,
-        "a carried peak of 20001",
-        terms,
-        &[0x40000000, 0x70004E21],
-    )
+// Order and values of the period and of the segments' terms.
+fn show_terms(rt: &HostRuntime) -> anyhow::Result<()> {
+    let period = &EACH_KIND[..1];
+    let segment = &EACH_KIND[..3];
+    let cases: [(&str, &[u32], &[u32]); 9] = [
+        ("a second period", period, &[0x17E67002]),
+        ("segment 1 first", period, &[0x2400042B, 0x340003E8]),
+        ("segment 2 before 1", segment, &[0x2800042B, 0x380003E8]),
+        ("segment 0 again", segment, &[0x2000042B, 0x300003E8]),
+        (
+            "a factor of another segment",
+            period,
+            &[0x2000042B, 0x340003E8],
+        ),
+        ("tariff 10000", period, &[0x20002710, 0x300003E8]),
+        ("factor 2001", period, &[0x2000042B, 0x300007D1]),
+        (
+            "service 1 for a part of the month",
+            period,
+            &[0x2100042B, 0x300003E8],
+        ),
+        (
+            "service 2 for a part of the month",
+            period,
+            &[0x2200042B, 0x300003E8],
+        ),
+    ];
+    for (label, front, rest) in cases {
+        show_words(rt, label, front, rest)?;
+    }
+    Ok(())
+}
+
+// Order and values of the meters and the carried peaks.
+fn show_meters(rt: &HostRuntime) -> anyhow::Result<()> {
+    let terms = &EACH_KIND[..9];
+    let peak = &EACH_KIND[..11];
+    let cases: [(&str, &[u32], &[u32]); 7] = [
+        ("a plan with no meter", terms, &[]),
+        ("a meter again", terms, &[0x40000000, 0x40400000]),
+        (
+            "a meter of a lower segment",
+            terms,
+            &[0x44000000, 0x40000000],
+        ),
+        ("a meter after a carried peak", peak, &[0x40000001]),
+        (
+            "a carried peak of no meter",
+            terms,
+            &[0x40000000, 0x701001F4],
+        ),
+        ("a carried peak of 0", terms, &[0x40000000, 0x70000000]),
+        ("a carried peak of 20001", terms, &[0x40000000, 0x70004E21]),
+    ];
+    for (label, front, rest) in cases {
+        show_words(rt, label, front, rest)?;
+    }
+    Ok(())
 }
 
 // The last hour of a month, and the one after it.
 fn show_periods(rt: &HostRuntime) -> anyhow::Result<()> {
-    let rest = &EACH_KIND[1..9];
-    show_words(rt, "March 2024 with 743 hours", &[0x17E832E7], rest)?;
-    show_words(rt, "March 2024 with 744 hours", &[0x17E832E8], rest)?;
-    show_words(rt, "October 2024 with 745 hours", &[0x17E8A2E9], rest)?;
-    show_words(rt, "October 2024 with 746 hours", &[0x17E8A2EA], rest)?;
-    show_words(rt, "month 13", &[0x17E8D001], rest)?;
-    show_words(rt, "year 1999", &[0x17CF1001], rest)?;
-    show_words(rt, "no hour", &[0x17E81000], rest)
+    let cases = [
+        ("March 2024 with 743 hours", 0x17E832E7),
+        ("March 2024 with 744 hours", 0x17E832E8),
+        ("October 2024 with 745 hours", 0x17E8A2E9),
+        ("October 2024 with 746 hours", 0x17E8A2EA),
+        ("month 13", 0x17E8D001),
+        ("year 1999", 0x17CF1001),
+        ("no hour", 0x17E81000),
+    ];
+    for (label, period) in cases {
+        show_words(rt, label, &[period], &EACH_KIND[1..9])?;
+    }
+    Ok(())
 }
 
 fn main(rt: HostRuntime) -> anyhow::Result<()> {
@@ -246,6 +239,7 @@ fn main(rt: HostRuntime) -> anyhow::Result<()> {
     show_all_spare_bits(&rt)?;
     show_all_phases(&rt)?;
     show_selections(&rt)?;
-    show_plans(&rt)?;
+    show_terms(&rt)?;
+    show_meters(&rt)?;
     show_periods(&rt)
 }

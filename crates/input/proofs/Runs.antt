@@ -1,6 +1,6 @@
 -- Words that a file gives one after the other. Assumes nothing.
-use Rattle.std.proofs.Common.{◌≡◌, ℕ, ◌+◌, List, [], ◌∷◌, ◌++◌, length, Some, None, Ok, Option, sym, refl, ap, subst, ⊎_elim, arith}
-use Rattle.input.specs.FileWords.{Ended, Gave, NextGiven, WordGiven}
+use Rattle.std.proofs.Common.{◌≡◌, ℕ, ◌+◌, List, [], ◌∷◌, ◌++◌, length, sym, refl, ap, subst, ⊎_elim, arith}
+use Rattle.input.specs.FileWords.{Gave, WordGiven}
 use Rattle.input.specs.declared.file_words.FileWords.{FileWords}
 
 counts : {R : Type 0} (before after : FileWords R) (entry : ℕ × ℕ) → WordGiven before entry after → after.number ≡ before.number + 1
@@ -33,11 +33,3 @@ pub gave-push : {R : Type 0} (words : List ℕ) (before middle after : FileWords
 gave-push words before middle after entry gave given =
     gave-append words (entry.1 ∷ []) before middle after gave
     (after, subst (λ n. WordGiven middle (n, entry.1) after) (numbered middle after entry given) given, refl)
-
--- what is known once the answer is
-module _ {R : Type 0} (E : Type 0) (before after : FileWords R) (o : Option (ℕ × ℕ)) (answer : NextGiven {E = E} before (Ok o) after) where
-  pub word_given : (entry : ℕ × ℕ) → o ≡ Some entry → WordGiven before entry after
-  word_given entry e = subst (λ x. NextGiven {E = E} before (Ok x) after) e answer
-
-  pub end_given : o ≡ None → Ended before after
-  end_given e = subst (λ x. NextGiven {E = E} before (Ok x) after) e answer

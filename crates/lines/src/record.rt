@@ -1,7 +1,7 @@
 // A record of a month file: a plan call, or a booking.
 use plan::{Booking, CarriedPeak, Meter};
 
-#[derive(Clone, Copy)]
+#[derive(Clone, Copy, PartialEq, Eq, Debug)]
 pub enum Record {
     Period {
         year: u32,

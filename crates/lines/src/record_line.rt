@@ -13,9 +13,7 @@ impl fmt::Display for Record {
     fn fmt<W: fmt::Write>(&self, f: &mut fmt::Formatter<W>) -> fmt::Result {
         match *self {
             Record::Period { year, month, hours } => {
-                let tens = month / 10;
-                let ones = month % 10;
-                write!(f, "PERIOD {year}-{tens}{ones} {hours}")
+                write!(f, "PERIOD {year}-{month:02} {hours}")
             }
             Record::Terms {
                 segment,

@@ -1,12 +1,12 @@
 -- A word after the first select, by what it brings and what the month answers. Assumes nothing.
-use Rattle.std.proofs.Common.{◌≡◌, ℕ, true, List, [], ◌∷◌, ◌++◌, Some, None, Ok, Err, Option, sym, refl, ap, ◌∙◌, subst}
+use Rattle.std.proofs.Common.{◌≡◌, ℕ, true, List, [], ◌∷◌, ◌++◌, Some, None, Ok, Err, Option, Result, sym, refl, ap, ◌∙◌, subst}
 use Rattle.std.specs.Option.{option_map}
 use Rattle.std.proofs.lemmas.List.{append-nil}
 use Rattle.plan.specs.Contents.{Contents}
 use Rattle.plan.specs.declared.booking.Booking.{Booking as Entry}
 use Rattle.words.specs.declared.word.Word.{Word}
 use Rattle.month.specs.Bookings.{booking_refusal}
-use Rattle.month.specs.Calls.{after_call}
+use Rattle.month.specs.Calls.{AnswersBooking, after_call}
 use Rattle.month.specs.Faults.{number_of}
 use Rattle.month.specs.Stands.{Stands, State}
 use Rattle.month.specs.Terms.{Terms}
@@ -22,12 +22,11 @@ use Rattle.monthfile.specs.declared.fault.Placed.{Placed}
 use Rattle.monthfile.specs.declared.fault.ReadFault.{ReadFault}
 use Rattle.monthfile.specs.declared.phase.Phase.{Phase}
 use Rattle.monthfile.specs.declared.telling.Layer.TheVariants.{Book as BOOK}
-use Rattle.monthfile.specs.declared.telling.Told.{Told}
 use Rattle.loading.specs.Layers.{brought_fault, has_opened, reading_of, terms_by, verdict_fault, word_fault}
 use Rattle.loading.specs.Stages.{BooksAt, WordBooked}
 use Rattle.loading.specs.declared.fault.LoadFault.TheVariants.{Booking, Reading}
 use Rattle.loading.proofs.Layered.{none_refused_push, pushed}
-use Rattle.loading.proofs.Planning.{some_is, tells_word}
+use Rattle.loading.proofs.Planning.{tells_word, told_parts}
 use Rattle.loading.proofs.Staged.{book_step, faulty_with, taken_with}
 
 module _ (joins : ℕ → ℕ → ℕ → ℕ) (words : List (Option Word)) (phase : Phase) (state : State) (b : BooksAt joins words phase state) (q : Contents) where
@@ -37,7 +36,7 @@ module _ (joins : ℕ → ℕ → ℕ → ℕ) (words : List (Option Word)) (pha
   abbrev bookings : List Entry
   bookings = (reading_of words).bookings
 
-  abbrev pub terms : Terms
+  abbrev terms : Terms
   terms = terms_by joins plan
 
   -- the reader, whose plan was handed out
@@ -103,11 +102,16 @@ module _ (joins : ℕ → ℕ → ℕ → ℕ) (words : List (Option Word)) (pha
   quiet_word place bits Opening after (Some word, decoded, e) none = absurd (book_step at word after Opening since e)
   quiet_word place bits (Offtake entry) after (Some word, decoded, e) none = absurd (none entry refl)
 
+  -- an amount is booked as the month answers
   module _ (place bits : ℕ) (entry : Entry) (after : Standing) (stepped : Stepped at place bits (Ok (Offtake entry)) after) (then : State)
-      (stands : Stands terms (after_call terms bookings (Book entry)) then) where
-    pub booked_word : booking_refusal terms bookings entry ≡ None → WordBooked joins words place bits (Ok tt) after.phase then
-    booked_word none = go stepped
+      (answer : Result (Unit {0}) BookingFault)
+      (answered : AnswersBooking terms bookings entry answer × Stands terms (after_call terms bookings (Book entry)) then) where
+    pub booked_word : answer ≡ Ok tt → WordBooked joins words place bits (Ok tt) after.phase then
+    booked_word taken = go stepped
       where
+        none : booking_refusal terms bookings entry ≡ None
+        none = subst (AnswersBooking terms bookings entry) taken answered.0
+
         go : Stepped at place bits (Ok (Offtake entry)) after → WordBooked joins words place bits (Ok tt) after.phase then
         go (None, decoded, never) = absurd never
         go (Some word, decoded, e) = (
@@ -115,17 +119,16 @@ module _ (joins : ℕ → ℕ → ℕ → ℕ) (words : List (Option Word)) (pha
           decoded,
           one_more word after (Offtake entry) e then (book_step at word after (Offtake entry) since e)
               (ap (option_map (λ number. (BOOK, number))) none)
-              (subst (λ bs. Stands terms bs then) (after_taken terms bookings entry none) stands),
+              (subst (λ bs. Stands terms bs then) (after_taken terms bookings entry none) answered.1),
         )
 
     pub unbooked_word : (placed : Placed BookingFault) (phase-then : Phase) →
-        booking_refusal terms bookings entry ≡ Some (number_of placed.fault) →
-        placed.place ≡ place →
+        (answer ≡ Err placed.fault) × (placed.place ≡ place) →
         WordBooked joins words place bits (Err (Booking placed)) phase-then then
-    unbooked_word placed phase-then refused at_place = go stepped
+    unbooked_word placed phase-then (given, at_place) = go stepped
       where
-        kept : Stands terms bookings then
-        kept = subst (λ bs. Stands terms bs then) (after_refused terms bookings entry (number_of placed.fault) refused) stands
+        refused : booking_refusal terms bookings entry ≡ Some (number_of placed.fault)
+        refused = subst (AnswersBooking terms bookings entry) given answered.0
 
         go : Stepped at place bits (Ok (Offtake entry)) after → WordBooked joins words place bits (Err (Booking placed)) phase-then then
         go (None, decoded, never) = absurd never
@@ -136,12 +139,9 @@ module _ (joins : ℕ → ℕ → ℕ → ℕ) (words : List (Option Word)) (pha
             clean = b.books.clean;
             opened = b.books.opened;
             none_refused = b.books.none_refused;
-            stands = kept;
+            stands = subst (λ bs. Stands terms bs then) (after_refused terms bookings entry (number_of placed.fault) refused) answered.1;
           },
           λ t is.
-              let same : record { layer = BOOK; number = number_of placed.fault; place = placed.place } ≡ t = some_is is in (
-                by_month word after (Offtake entry) e ∙ ap (option_map (λ number. (BOOK, number))) refused
-                    ∙ ap (λ (x : Told). Some (x.layer, x.number)) same,
-                ap (λ (x : Told). x.place) (sym same) ∙ at_place,
-              ),
+              let parts = told_parts BOOK (number_of placed.fault) placed.place t is in
+              (by_month word after (Offtake entry) e ∙ ap (option_map (λ number. (BOOK, number))) refused ∙ parts.0, parts.1 ∙ at_place),
         )

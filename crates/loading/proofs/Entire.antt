@@ -1,8 +1,11 @@
 -- A whole file: its plan's words, the opening, and its bookings' words. Assumes nothing.
 use Rattle.std.proofs.Common.{◌≡◌, ℕ, true, eqb, List, [], ◌∷◌, ◌++◌, Some, None, Ok, Err, Option, Result, sym, refl, ap, ◌∙◌, subst, append_assoc, arith, length-append}
 use Rattle.std.specs.Option.{option_map, option_or}
+use Rattle.std.specs.Prelude.{MatchResult}
 use Rattle.std.proofs.lemmas.List.{append-nil}
+use Rattle.std.proofs.lemmas.Option.{none-some}
 use Rattle.std.proofs.lemmas.Bool.{cond-false, eqb-true}
+use Rattle.std.proofs.lemmas.Result.{MatchResult-at_err, MatchResult-at_ok}
 use Rattle.plan.specs.Contents.{Contents}
 use Rattle.plan.specs.OfPlan.{contents}
 use Rattle.plan.specs.declared.booking.Booking.{Booking}
@@ -13,7 +16,7 @@ use Rattle.input.specs.FileWords.{Ended, Gave, left_over}
 use Rattle.input.specs.declared.file_words.FileWords.{FileWords}
 use Rattle.input.proofs.Runs.{gave-append}
 use Rattle.month.specs.Faults.{opening_number_of}
-use Rattle.month.specs.OfMonth.{SourcesLeft, source_joins, state_of, terms_of}
+use Rattle.month.specs.OfMonth.{NotOpened, SourcesLeft, source_joins, state_of, terms_of}
 use Rattle.month.specs.Opening.{RefusesOpening, opening_refusal}
 use Rattle.month.specs.Stands.{Stands, State}
 use Rattle.month.specs.Terms.{Terms}
@@ -21,45 +24,68 @@ use Rattle.month.specs.declared.fault.OpeningFault.{OpeningFault}
 use Rattle.month.specs.declared.fault.OpeningFault.TheVariants.{NotFull, Peak, Memory}
 use Rattle.month.specs.declared.month.Month.{Month}
 use Rattle.month.specs.declared.open.Open.{Open}
+use Rattle.month.specs.declared.opening.Unopened.{Unopened}
 use Rattle.month.specs.declared.sources.Sources.{Sources}
 use Rattle.monthfile.specs.File.{file_words}
-use Rattle.monthfile.specs.Judging.{FILE, Standing, Taken, judge}
+use Rattle.monthfile.specs.Judging.{Standing, Taken, judge}
 use Rattle.monthfile.specs.Reading.{AllDecoded, end_fault, may_end}
-use Rattle.monthfile.specs.Telling.{as_told}
 use Rattle.monthfile.specs.declared.brought.Brought.TheVariants.{Opening}
+use Rattle.monthfile.specs.declared.fault.Placed.{Placed}
 use Rattle.monthfile.specs.declared.telling.Layer.{Layer}
-use Rattle.monthfile.specs.declared.telling.Layer.TheVariants.{Plan as PLAN}
+use Rattle.monthfile.specs.declared.telling.Layer.TheVariants.{File as FILE, Plan as PLAN}
 use Rattle.monthfile.specs.declared.telling.Told.{Told}
 use Rattle.monthfile.proofs.Backward.{is_file}
 use Rattle.monthfile.proofs.Entire.{decoded-bits, may_end_parts}
 use Rattle.monthfile.proofs.OneByOne.{decoded-append}
 use Rattle.loading.specs.Faults.{told}
 use Rattle.loading.specs.Layers.{brought_fault, has_opened, opening_tells, reading_of, terms_by, verdict_fault, word_fault}
+use Rattle.loading.specs.Left.{stopped_by}
 use Rattle.loading.specs.Loading.{LeftBy, Loaded, Loads, StoppedBy, TellsOf}
 use Rattle.loading.specs.Stages.{BooksAt, BooksEnded, BooksStopped, EndRead, Given, Opens, PlanStopped, PlanWords, RestBooked, SelectRead}
 use Rattle.loading.specs.declared.fault.LoadFault.{LoadFault}
+use Rattle.loading.specs.declared.fault.LoadFault.TheVariants.{Opening as Refused}
 use Rattle.loading.specs.declared.left.Left.TheVariants.{Planned, Opened}
 use Rattle.loading.specs.declared.left.Stopped.{Stopped}
 use Rattle.loading.proofs.Layered.{none_refused_push, pushed}
-use Rattle.loading.proofs.Planning.{given-count, none≢some, some_is}
+use Rattle.loading.proofs.Planning.{given-count, told_parts}
 use Rattle.loading.proofs.Staged.{plan_step}
 
 -- what a refused opening tells
-pub opening_told : (terms : Terms) (fault : OpeningFault) (place : ℕ) (t : Told) →
+opening_told : (terms : Terms) (fault : OpeningFault) (place : ℕ) (t : Told) →
     RefusesOpening terms fault →
     option_map (λ number. record { layer = PLAN; number = number; place = place }) (opening_number_of fault) ≡ Some t →
     option_map (λ number. record { layer = PLAN; number = number; place = place }) (opening_refusal terms) ≡ Some t
 opening_told terms NotFull place t refuses is = ap (option_map (λ number. record { layer = PLAN; number = number; place = place })) refuses ∙ is
 opening_told terms (Peak fault) place t refuses is = ap (option_map (λ number. record { layer = PLAN; number = number; place = place })) refuses ∙ is
-opening_told terms Memory place t refuses is = absurd (none≢some is)
+opening_told terms Memory place t refuses is = absurd (none-some _ is)
 
 -- the sources that a refused opening hands back join as before
-pub joins_left : {A B C D : Type 0} (a : Source A) (b : Source B) (c : Source C) (d : Source D) (fault : OpeningFault) (before after : Sources A B C D) →
+joins_left : {A B C D : Type 0} (a : Source A) (b : Source B) (c : Source C) (d : Source D) (fault : OpeningFault) (before after : Sources A B C D) →
     SourcesLeft a b c d fault before after →
     source_joins a b c d after ≡ source_joins a b c d before
 joins_left a b c d NotFull before after same = ap (source_joins a b c d) same
 joins_left a b c d (Peak fault) before after reset = reset.0
 joins_left a b c d Memory before after reset = reset.0
+
+-- what an opening answers, with its place
+module _ {A B C D : Type 0} {a : Source A} {b : Source B} {c : Source C} {d : Source D} (plan : Plan) (sources : Sources A B C D)
+    (answer : Result (Open (Month A B C D a b c d)) (Unopened A B C D))
+    (opens : MatchResult answer (λ month. Stands (terms_of a b c d plan sources) [] (state_of month.0)) (NotOpened a b c d plan sources)) where
+  pub opened : (month : Open (Month A B C D a b c d)) → answer ≡ Ok month → Stands (terms_of a b c d plan sources) [] (state_of month.0)
+  opened month e = MatchResult-at_ok _ _ month e opens
+
+  pub unopened : (place : ℕ) (refused : Placed (Unopened A B C D)) →
+      (answer ≡ Err refused.fault) × (refused.place ≡ place) →
+      Opens a b c d plan sources place (Err (stopped_by refused))
+  unopened place refused (e, at) =
+      let not : NotOpened a b c d plan sources refused.fault = MatchResult-at_err _ _ refused.fault e opens in (
+        refused.fault.sources,
+        ap (λ (p : Plan). Planned p refused.fault.sources) not.plan_left,
+        joins_left a b c d refused.fault.fault sources refused.fault.sources not.sources_left,
+        λ t is.
+            opening_told (terms_of a b c d plan sources) refused.fault.fault place t not.refusal
+            (ap (λ n. told (Refused (record { fault = refused.fault.fault; place = n }))) (sym at) ∙ is),
+      )
 
 given-append : {R : Type 0} (before middle after : FileWords R) (words more : List (Option Word)) →
     Given before words middle →
@@ -115,7 +141,7 @@ module _ {A B C D R : Type 0} (a : Source A) (b : Source B) (c : Source C) (d : 
       Ended reached after →
       (reading_of words).fault ≡ None →
       end_fault (reading_of words).standing after.number (left_over after) ≡ None →
-      Stands (terms_by joins (reading_of words).standing.plan) (reading_of words).bookings (state_of a b c d month) →
+      Stands (terms_by joins (reading_of words).standing.plan) (reading_of words).bookings (state_of month) →
       Loaded a b c d joins month before after
   loaded month words reached given ended clean fine stands =
       let plan : Contents = (reading_of words).standing.plan in
@@ -161,16 +187,16 @@ module _ {A B C D R : Type 0} (a : Source A) (b : Source B) (c : Source C) (d : 
     }
 
     -- the month opens at the file's end
-    end_loaded : (month : Month A B C D a b c d) →
+    pub end_loaded : (month : Month A B C D a b c d) →
         EndRead before after at →
-        Stands (terms_of a b c d plan sources) [] (state_of a b c d month) →
+        Stands (terms_of a b c d plan sources) [] (state_of month) →
         Loaded a b c d joins month before after
     end_loaded month e stands =
         let is : (reading_of e.words).standing ≡ at = e.planned.stands in
         loaded month e.words e.reached e.given e.ended e.planned.clean
         (ap (λ st. end_fault st after.number (left_over after)) is ∙ e.fine)
-        (subst (λ bs. Stands (terms_by joins (reading_of e.words).standing.plan) bs (state_of a b c d month)) (sym e.planned.none_booked)
-        (subst (λ p. Stands (terms_by joins p) [] (state_of a b c d month)) (same ∙ ap (λ (x : Standing). x.plan) (sym is)) stands))
+        (subst (λ bs. Stands (terms_by joins (reading_of e.words).standing.plan) bs (state_of month)) (sym e.planned.none_booked)
+        (subst (λ p. Stands (terms_by joins p) [] (state_of month)) (same ∙ ap (λ (x : Standing). x.plan) (sym is)) stands))
 
     -- the opening is refused
     module _ (place : ℕ) (stopped : Stopped A B C D a b c d) (opens : Opens a b c d plan sources place (Err stopped)) where
@@ -187,13 +213,11 @@ module _ {A B C D R : Type 0} (a : Source A) (b : Source B) (c : Source C) (d : 
       refuses : (t : Told) → told stopped.fault ≡ Some t → option_map as_plan (opening_refusal (terms_by joins at.plan)) ≡ Some t
       refuses t is = ap (λ (p : Contents). option_map as_plan (opening_refusal (terms_by joins p))) (sym same) ∙ opens.3 t is
 
-      pair_of : (o : Option ℕ) (t : Told) → option_map as_plan o ≡ Some t → option_map {U = Layer × ℕ} (λ number. (PLAN, number)) o ≡ Some (t.layer, t.number)
-      pair_of None t e = absurd (none≢some e)
-      pair_of (Some n) t e = ap (λ (x : Told). Some (x.layer, x.number)) (some_is e)
-
-      place_of : (o : Option ℕ) (t : Told) → option_map as_plan o ≡ Some t → t.place ≡ place
-      place_of None t e = absurd (none≢some e)
-      place_of (Some n) t e = ap (λ (x : Told). x.place) (sym (some_is e))
+      tells_plan : (o : Option ℕ) (t : Told) →
+          option_map as_plan o ≡ Some t →
+          (option_map {U = Layer × ℕ} (λ number. (PLAN, number)) o ≡ Some (t.layer, t.number)) × (t.place ≡ place)
+      tells_plan None t e = absurd (none-some _ e)
+      tells_plan (Some n) t e = told_parts PLAN n place t e
 
       pub select_stopped : SelectRead before after at place → StoppedBy a b c d joins stopped before after
       select_stopped s =
@@ -209,13 +233,12 @@ module _ {A B C D R : Type 0} (a : Source A) (b : Source B) (c : Source C) (d : 
             decoded = s.given.decoded;
             none_refused = s.planned.none_refused joins;
             left = left_is s.words s.at s.planned (same ∙ (plan_step s.at s.word at Opening s.planned.planning s.opens).1);
-            tells = λ t is. (
-              ap (verdict_fault joins (reading_of s.words).bookings) here ∙ pair_of (opening_refusal (terms_by joins at.plan)) t (refuses t is),
-              place_of (opening_refusal (terms_by joins at.plan)) t (refuses t is) ∙ s.placed,
-            );
+            tells = λ t is.
+                let parts = tells_plan (opening_refusal (terms_by joins at.plan)) t (refuses t is) in
+                (ap (verdict_fault joins (reading_of s.words).bookings) here ∙ parts.0, parts.1 ∙ s.placed);
           }
 
-      end_stopped : EndRead before after at → place ≡ after.number → StoppedBy a b c d joins stopped before after
+      pub end_stopped : EndRead before after at → place ≡ after.number → StoppedBy a b c d joins stopped before after
       end_stopped e is-end = record {
         bits = e.given.bits;
         reached = e.reached;
@@ -228,39 +251,31 @@ module _ {A B C D R : Type 0} (a : Source A) (b : Source B) (c : Source C) (d : 
         left = left_is e.words at e.planned same;
         tells = λ t is. (
           e.ended,
-          ap (λ st. option_or (option_map as_told (end_fault st after.number (left_over after))) (opening_tells joins st after.number)) e.planned.stands
-              ∙ ap (λ o. option_or (option_map as_told o) (opening_tells joins at after.number)) e.fine
+          ap (λ st. option_or (end_fault st after.number (left_over after)) (opening_tells joins st after.number)) e.planned.stands
+              ∙ ap (λ o. option_or o (opening_tells joins at after.number)) e.fine
               ∙ ap (opening_tells joins at) (sym is-end)
               ∙ cond-false (has_opened at.phase) None _ e.planned.planning
               ∙ refuses t is,
         );
       }
 
-    pub end_loads : (place : ℕ) (r : Result (Open (Month A B C D a b c d)) (Stopped A B C D a b c d)) →
-        EndRead before after at →
-        place ≡ after.number →
-        Opens a b c d plan sources place r →
-        Loads a b c d joins before r after
-    end_loads place (Ok month) e is-end stands = end_loaded month.0 e stands
-    end_loads place (Err stopped) e is-end opens = end_stopped place stopped opens e is-end
-
     -- the rest of the file
     module _ (middle : FileWords R) (place : ℕ) (s : SelectRead before middle at place) (month : Month A B C D a b c d)
-        (stands : Stands (terms_of a b c d plan sources) [] (state_of a b c d month)) where
+        (stands : Stands (terms_of a b c d plan sources) [] (state_of month)) where
       abbrev first : List (Option Word)
       first = s.words ++ Some s.word ∷ []
 
-      pub books_first : BooksAt joins first at.phase (state_of a b c d month)
-      books_first = opened_books joins s.words s.word s.at at (contents plan) (state_of a b c d month) s.planned s.opens same stands
+      pub books_first : BooksAt joins first at.phase (state_of month)
+      books_first = opened_books joins s.words s.word s.at at (contents plan) (state_of month) s.planned s.opens same stands
 
-      rest_loaded : (then : Open (Month A B C D a b c d)) → BooksEnded joins first middle after (state_of a b c d then.0) → Loaded a b c d joins then.0 before after
+      rest_loaded : (then : Open (Month A B C D a b c d)) → BooksEnded joins first middle after (state_of then.0) → Loaded a b c d joins then.0 before after
       rest_loaded then e =
           loaded then.0 (first ++ e.more) e.reached (given-append before middle e.reached first e.more s.given e.given) e.ended
           e.books.clean e.fine e.books.stands
 
       rest_stopped : (stopped : Stopped A B C D a b c d) (then : Open (Month A B C D a b c d)) →
           stopped.left ≡ Opened then →
-          BooksStopped joins first middle after (state_of a b c d then.0) stopped.fault →
+          BooksStopped joins first middle after (state_of then.0) stopped.fault →
           StoppedBy a b c d joins stopped before after
       rest_stopped stopped then is e =
           let all = given-append before middle e.reached first (e.taken ++ e.others) s.given e.given in

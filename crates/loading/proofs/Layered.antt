@@ -38,13 +38,10 @@ last_of : {X : Type 0} (x : X) (xs : List X) → (front : List X) × (last : X) 
 last_of x [] = ([], x, refl)
 last_of x (y ∷ ys) = let rest = last_of y ys in (x ∷ rest.0, rest.1, ap (λ l. x ∷ l) rest.2)
 
-cons≢nil : {X : Type 0} {x : X} {xs : List X} → [] ≡ x ∷ xs → ⊥
-cons≢nil e = let z : ◌≡◌ {A = ℕ} 0 1 = cc in omega arith
-
 module _ (joins : ℕ → ℕ → ℕ → ℕ) where
   pub none_refused_nil : NoneRefused joins []
-  none_refused_nil [] after word e = absurd (cons≢nil e)
-  none_refused_nil (b ∷ before) after word e = absurd (cons≢nil e)
+  none_refused_nil [] after word e = cc
+  none_refused_nil (b ∷ before) after word e = cc
 
   pub none_refused_push : (words : List (Option Word)) (word : Option Word) →
       NoneRefused joins words →

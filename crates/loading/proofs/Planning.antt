@@ -1,19 +1,20 @@
 -- The plan's words, one by one. Assumes nothing.
 use Rattle.std.proofs.Common.{◌≡◌, ℕ, ◌+◌, List, [], ◌∷◌, ◌++◌, length, Some, None, Ok, Err, Option, sym, refl, ap, ◌∙◌, subst, arith}
-use Rattle.std.specs.Option.{option_map, option_or}
+use Rattle.std.specs.Option.{option_or}
 use Rattle.std.proofs.lemmas.List.{append-nil}
+use Rattle.std.proofs.lemmas.Option.{none-some, same_Some}
 use Rattle.words.specs.Layout.{Decoded}
 use Rattle.words.specs.declared.word.Word.{Word}
 use Rattle.input.specs.FileWords.{Ended, WordGiven, left_over}
 use Rattle.input.specs.declared.file_words.FileWords.{FileWords}
 use Rattle.input.proofs.Runs.{gave_count, gave-push, numbered}
 use Rattle.monthfile.specs.Faults.{Stepped, blamed, told as told_by_reading}
-use Rattle.monthfile.specs.Judging.{Layer, Standing, Verdict, Faulty, Taken, beginning, judge}
+use Rattle.monthfile.specs.Judging.{Standing, Verdict, Faulty, Taken, beginning, judge}
 use Rattle.monthfile.specs.Reading.{end_fault}
-use Rattle.monthfile.specs.Telling.{as_told, layer_of, told_of}
 use Rattle.monthfile.specs.declared.brought.Brought.{Brought}
 use Rattle.monthfile.specs.declared.brought.Brought.TheVariants.{Nothing, Opening, Offtake}
 use Rattle.monthfile.specs.declared.fault.ReadFault.{ReadFault}
+use Rattle.monthfile.specs.declared.telling.Layer.{Layer}
 use Rattle.monthfile.specs.declared.telling.Layer.TheVariants.{File as FILE}
 use Rattle.monthfile.specs.declared.telling.Told.{Told}
 use Rattle.monthfile.proofs.OneByOne.{decoded-append, length-decoded}
@@ -24,12 +25,6 @@ use Rattle.loading.specs.declared.fault.LoadFault.{LoadFault}
 use Rattle.loading.specs.declared.fault.LoadFault.TheVariants.{Reading}
 use Rattle.loading.proofs.Layered.{none_refused_nil, none_refused_push, pushed}
 use Rattle.loading.proofs.Staged.{plan_step}
-
-pub none≢some : {X : Type 0} {x : X} → None ≡ Some x → ⊥
-none≢some e = let z : ◌≡◌ {A = ℕ} 0 1 = cc in omega arith
-
-pub some_is : {X : Type 0} {x y : X} → Some x ≡ Some y → x ≡ y
-some_is e = cc
 
 -- one word more that the file gives
 pub given-push : {R : Type 0} (before middle after : FileWords R) (words : List (Option Word)) (entry : ℕ × ℕ) (word : Option Word) →
@@ -42,6 +37,10 @@ given-push before middle after words entry word given next decoded = record {
   gave = gave-push given.bits before middle after entry given.gave next;
   decoded = decoded-append given.bits (entry.1 ∷ []) words (word ∷ []) given.decoded (decoded, tt);
 }
+
+-- the same words, and none beside them
+pub given-nil : {R : Type 0} (before after : FileWords R) (words : List (Option Word)) → Given before words after → Given before (words ++ []) after
+given-nil before after words given = subst (λ ws. Given before ws after) (sym (append-nil words)) given
 
 -- the number of the next word
 pub given-count : {R : Type 0} (before after : FileWords R) (words : List (Option Word)) →
@@ -59,36 +58,40 @@ stays_refused at after place bits fault (Some word, decoded, (tells, same)) = sa
 pub end_asked : (at : Standing) (place words over left : ℕ) → words ≡ place → left ≡ over → end_fault at words left ≡ end_fault at place over
 end_asked at place words over left p o = ap (λ n. end_fault at n left) p ∙ ap (end_fault at place) o
 
+-- what a fault tells, by its parts
+pub told_parts : (layer : Layer) (number place : ℕ) (t : Told) →
+    Some (record { layer = layer; number = number; place = place }) ≡ Some t →
+    (◌≡◌ {A = Option (Layer × ℕ)} (Some (layer, number)) (Some (t.layer, t.number))) × (t.place ≡ place)
+told_parts layer number place t is =
+    let same : record { layer = layer; number = number; place = place } ≡ t = same_Some _ _ is in
+    (ap (λ (x : Told). Some (x.layer, x.number)) same, ap (λ (x : Told). x.place) (sym same))
+
 -- what FILE and PLAN tell of a word, all layers tell
 pub tells_word : (joins : ℕ → ℕ → ℕ → ℕ) (words : List (Option Word)) (at : Standing) (place bits : ℕ) (fault : ReadFault) (after : Standing) →
     ((word : Word) (layer : Layer) (number : ℕ) → judge at word ≡ Faulty layer number → judge (reading_of words).standing word ≡ Faulty layer number) →
     (stepped : Stepped at place bits (Err fault) after) →
     (t : Told) →
-    told_of fault ≡ Some t →
+    told_by_reading fault ≡ Some t →
     (word_fault joins words stepped.0 ≡ Some (t.layer, t.number)) × (t.place ≡ place)
-tells_word joins words at place bits fault after faulty (None, decoded, (tells, same)) t is =
-    let e : record { layer = FILE; number = 1; place = place } ≡ t = some_is (ap (option_map as_told) (sym tells) ∙ is) in
-    (ap (λ (x : Told). Some (x.layer, x.number)) e, ap (λ (x : Told). x.place) (sym e))
+tells_word joins words at place bits fault after faulty (None, decoded, (tells, same)) t is = told_parts FILE 1 place t (sym tells ∙ is)
 tells_word joins words at place bits fault after faulty (Some word, decoded, (tells, same)) t is =
-    go (judge at word) refl (ap (option_map as_told) (sym tells) ∙ is)
+    go (judge at word) refl (sym tells ∙ is)
   where
-    go : (v : Verdict) → judge at word ≡ v → option_map as_told (blamed place v) ≡ Some t →
+    go : (v : Verdict) → judge at word ≡ v → blamed place v ≡ Some t →
         (word_fault joins words (Some word) ≡ Some (t.layer, t.number)) × (t.place ≡ place)
     go (Faulty layer number) e b =
-        let same : record { layer = layer_of layer; number = number; place = place } ≡ t = some_is b in (
-          ap (verdict_fault joins (reading_of words).bookings) (faulty word layer number e) ∙ ap (λ (x : Told). Some (x.layer, x.number)) same,
-          ap (λ (x : Told). x.place) (sym same),
-        )
-    go (Taken st brought) e b = absurd (none≢some b)
+        let parts = told_parts layer number place t b in
+        (ap (verdict_fault joins (reading_of words).bookings) (faulty word layer number e) ∙ parts.0, parts.1)
+    go (Taken st brought) e b = absurd (none-some _ b)
 
 -- what FILE tells of the end, all layers tell
 pub tells_end : (joins : ℕ → ℕ → ℕ → ℕ) (words : List (Option Word)) (at : Standing) (place over : ℕ) (t : Told) →
     (reading_of words).standing ≡ at →
-    option_map as_told (end_fault at place over) ≡ Some t →
+    end_fault at place over ≡ Some t →
     end_tells joins words place over ≡ Some t
 tells_end joins words at place over t stands e =
     ap (λ o. option_or o (opening_tells joins (reading_of words).standing place))
-    (ap (λ st. option_map as_told (end_fault st place over)) stands ∙ e)
+    (ap (λ st. end_fault st place over) stands ∙ e)
 
 plan_none : PlanWords [] beginning
 plan_none = record {
@@ -133,10 +136,10 @@ module _ {R : Type 0} (before : FileWords R) where
     taken = words;
     others = [];
     reached = file;
-    given = subst (λ ws. Given before ws file) (sym (append-nil words)) given;
+    given = given-nil before file words given;
     counts = counts;
     planned = planned;
-    tells = λ joins t is. absurd (none≢some (sym none ∙ is));
+    tells = λ joins t is. absurd (none-some _ (sym none ∙ is));
   }
 
   module _ (file after : FileWords R) (at then : Standing) (so_far : PlanSoFar file at) where
@@ -199,9 +202,9 @@ module _ {R : Type 0} (before : FileWords R) where
         taken = so_far.0;
         others = [];
         reached = file;
-        given = subst (λ ws. Given before ws file) (sym (append-nil so_far.0)) so_far.1;
+        given = given-nil before file so_far.0 so_far.1;
         counts = ended.stays;
         planned = so_far.2;
         tells = λ joins t is.
-            (ended, tells_end joins so_far.0 at after.number (left_over after) t so_far.2.stands (ap (option_map as_told) (sym tells) ∙ is));
+            (ended, tells_end joins so_far.0 at after.number (left_over after) t so_far.2.stands (sym tells ∙ is));
       }

@@ -1,25 +1,25 @@
 -- The words after the first select, one after the other to the file's end. Assumes nothing.
 use Rattle.std.proofs.Common.{◌≡◌, ℕ, List, [], ◌∷◌, ◌++◌, Some, None, Ok, Err, Option, sym, refl, ap, ◌∙◌, subst, append_assoc}
-use Rattle.std.specs.Option.{option_map}
 use Rattle.std.proofs.lemmas.List.{append-nil}
+use Rattle.std.proofs.lemmas.Option.{none-some}
 use Rattle.plan.specs.Contents.{Contents}
 use Rattle.words.specs.declared.word.Word.{Word}
 use Rattle.input.specs.FileWords.{Ended, WordGiven, left_over}
 use Rattle.input.specs.declared.file_words.FileWords.{FileWords}
 use Rattle.input.proofs.Runs.{numbered}
 use Rattle.month.specs.Stands.{State}
-use Rattle.monthfile.specs.Faults.{Told, told as told_by_reading}
+use Rattle.monthfile.specs.Faults.{told as told_by_reading}
 use Rattle.monthfile.specs.Judging.{Standing}
 use Rattle.monthfile.specs.Reading.{end_fault}
-use Rattle.monthfile.specs.Telling.{as_told}
 use Rattle.monthfile.specs.declared.fault.ReadFault.{ReadFault}
 use Rattle.monthfile.specs.declared.phase.Phase.{Phase}
+use Rattle.monthfile.specs.declared.telling.Told.{Told}
 use Rattle.loading.specs.Faults.{told}
 use Rattle.loading.specs.Layers.{reading_of}
 use Rattle.loading.specs.Stages.{BooksAt, BooksEnded, BooksStopped, Given, WordBooked}
 use Rattle.loading.specs.declared.fault.LoadFault.{LoadFault}
 use Rattle.loading.specs.declared.fault.LoadFault.TheVariants.{Reading}
-use Rattle.loading.proofs.Planning.{given-count, given-push, none≢some, tells_end}
+use Rattle.loading.proofs.Planning.{given-count, given-nil, given-push, tells_end}
 
 -- the end is judged by the phase alone
 pub end_by_phase : (at : Standing) (phase : Phase) (q : Contents) (place over : ℕ) →
@@ -45,10 +45,10 @@ module _ {R : Type 0} (joins : ℕ → ℕ → ℕ → ℕ) (words : List (Optio
       taken = more;
       others = [];
       reached = file;
-      given = subst (λ ws. Given before ws file) (sym (append-nil more)) so_far.1;
+      given = given-nil before file more so_far.1;
       counts = counts;
       books = so_far.2.books;
-      tells = λ t is. absurd (none≢some (sym none ∙ is));
+      tells = λ t is. absurd (none-some _ (sym none ∙ is));
     }
 
     -- one word more
@@ -98,12 +98,12 @@ module _ {R : Type 0} (joins : ℕ → ℕ → ℕ → ℕ) (words : List (Optio
         taken = more;
         others = [];
         reached = file;
-        given = subst (λ ws. Given before ws file) (sym (append-nil more)) so_far.1;
+        given = given-nil before file more so_far.1;
         counts = ended.stays;
         books = so_far.2.books;
         tells = λ t is. (
           ended,
           tells_end joins (words ++ more) (reading_of (words ++ more)).standing after.number (left_over after) t refl
-              (ap (option_map as_told) (sym same_end ∙ sym tells) ∙ is),
+              (sym same_end ∙ sym tells ∙ is),
         );
       }

@@ -5,11 +5,12 @@ use Rattle.plan.specs.Contents.{Contents}
 use Rattle.plan.specs.Questions.{is_full}
 use Rattle.words.specs.declared.word.Word.{Word}
 use Rattle.words.specs.declared.word.Word.TheVariants.{Period, Segment, Factor, Meter, Select, Amount, Carried}
-use Rattle.monthfile.specs.Judging.{Layer, Standing, Verdict, Faulty, Taken, brought_by, call_of, judge, may_stand, phase_after, plan_after, within_limits}
+use Rattle.monthfile.specs.Judging.{Standing, Verdict, Faulty, Taken, brought_by, call_of, judge, may_stand, phase_after, plan_after, within_limits}
 use Rattle.monthfile.specs.declared.brought.Brought.{Brought}
 use Rattle.monthfile.specs.declared.brought.Brought.TheVariants.{Nothing, Opening, Offtake}
 use Rattle.monthfile.specs.declared.phase.Phase.{Phase}
 use Rattle.monthfile.specs.declared.phase.Phase.TheVariants.{Start, Segments, Terms, Meters, Peaks, Selected, Booked}
+use Rattle.monthfile.specs.declared.telling.Layer.{Layer}
 use Rattle.monthfile.proofs.Allowed.{Allowed, allowed, period, segment, factor, meter, first_peak, next_peak, select_after_meters, select_after_peaks, select_anew, selected_amount, next_amount}
 use Rattle.monthfile.proofs.Backward.{passed}
 use Rattle.loading.specs.Layers.{has_opened}
@@ -29,7 +30,7 @@ step : {phase : Phase} {word : Word} → Allowed phase word → has_opened phase
     PlanStep plan (record { phase = phase_after then phase word; plan = then }) (brought_by phase word)
 step period early plan = refl
 step segment early plan = refl
-step (factor {s} {v} {t} {u} {f} e) early plan = after_factor (is_full (plan_after plan (call_of (Terms s v t) (Factor u f))))
+step (factor {given} {u} {f} e) early plan = after_factor (is_full (plan_after plan (call_of (Terms given) (Factor u f))))
 step meter early plan = refl
 step first_peak early plan = refl
 step next_peak early plan = refl
@@ -73,24 +74,24 @@ module _ (p q : Contents) where
       judge (record { phase = phase; plan = q }) word ≡ replan q (judge (record { phase = phase; plan = p }) word)
   replanned Start word since = absurd (false≢true since)
   replanned Segments word since = absurd (false≢true since)
-  replanned (Terms s v t) word since = absurd (false≢true since)
+  replanned (Terms given) word since = absurd (false≢true since)
   replanned Meters word since = absurd (false≢true since)
   replanned Peaks word since = absurd (false≢true since)
-  replanned (Selected s m h) (Period y n k) since = refl
-  replanned (Selected s m h) (Segment u v t) since = refl
-  replanned (Selected s m h) (Factor u f) since = refl
-  replanned (Selected s m h) (Meter u w g n) since = refl
-  replanned (Selected s m h) (Select u n k) since = refl
-  replanned (Selected s m h) (Amount a) since = either (within_limits (Selected s m h) (Amount a)) (Faulty _ 3) _ _ refl
-  replanned (Selected s m h) (Carried n a) since = refl
-  replanned (Booked s m h) (Period y n k) since = refl
-  replanned (Booked s m h) (Segment u v t) since = refl
-  replanned (Booked s m h) (Factor u f) since = refl
-  replanned (Booked s m h) (Meter u w g n) since = refl
-  replanned (Booked s m h) (Select u n k) since =
-      both (may_stand (Booked s m h) (Select u n k)) (within_limits (Booked s m h) (Select u n k)) (Faulty _ 3) (Faulty _ 2) _ _ refl refl
-  replanned (Booked s m h) (Amount a) since = either (within_limits (Booked s m h) (Amount a)) (Faulty _ 3) _ _ refl
-  replanned (Booked s m h) (Carried n a) since = refl
+  replanned (Selected spot) (Period y n k) since = refl
+  replanned (Selected spot) (Segment given) since = refl
+  replanned (Selected spot) (Factor u f) since = refl
+  replanned (Selected spot) (Meter u w g n) since = refl
+  replanned (Selected spot) (Select named) since = refl
+  replanned (Selected spot) (Amount a) since = either (within_limits (Selected spot) (Amount a)) (Faulty _ 3) _ _ refl
+  replanned (Selected spot) (Carried n a) since = refl
+  replanned (Booked spot) (Period y n k) since = refl
+  replanned (Booked spot) (Segment given) since = refl
+  replanned (Booked spot) (Factor u f) since = refl
+  replanned (Booked spot) (Meter u w g n) since = refl
+  replanned (Booked spot) (Select named) since =
+      both (may_stand (Booked spot) (Select named)) (within_limits (Booked spot) (Select named)) (Faulty _ 3) (Faulty _ 2) _ _ refl refl
+  replanned (Booked spot) (Amount a) since = either (within_limits (Booked spot) (Amount a)) (Faulty _ 3) _ _ refl
+  replanned (Booked spot) (Carried n a) since = refl
 
   -- after the first select the plan makes no difference to a verdict
   pub faulty_with : (phase : Phase) (word : Word) (layer : Layer) (number : ℕ) →

@@ -9,7 +9,6 @@ use Rattle.month.specs.Opening.{opening_refusal}
 use Rattle.month.specs.Terms.{Terms}
 use Rattle.monthfile.specs.Judging.{Standing, Verdict, Faulty, Taken, beginning, judge}
 use Rattle.monthfile.specs.Reading.{Reading, end_fault, reading}
-use Rattle.monthfile.specs.Telling.{as_told, layer_of}
 use Rattle.monthfile.specs.declared.brought.Brought.{Brought}
 use Rattle.monthfile.specs.declared.brought.Brought.TheVariants.{Nothing, Opening, Offtake}
 use Rattle.monthfile.specs.declared.phase.Phase.{Phase}
@@ -26,11 +25,11 @@ reading_of words = reading beginning 0 words
 abbrev pub has_opened : Phase → Bool
 has_opened Start = false
 has_opened Segments = false
-has_opened (AwaitsFactor segment service tariff) = false
+has_opened (AwaitsFactor given) = false
 has_opened Meters = false
 has_opened Peaks = false
-has_opened (Selected segment meter hour) = true
-has_opened (Booked segment meter hour) = true
+has_opened (Selected spot) = true
+has_opened (Booked spot) = true
 
 module _ (joins : ℕ → ℕ → ℕ → ℕ) where
   -- what a month is opened with, by its plan
@@ -46,7 +45,7 @@ module _ (joins : ℕ → ℕ → ℕ → ℕ) where
 
   -- the same of a word by the verdict of FILE and PLAN, which comes first
   abbrev pub verdict_fault : List Booking → Verdict → Option (Layer × ℕ)
-  verdict_fault bookings (Faulty layer number) = Some (layer_of layer, number)
+  verdict_fault bookings (Faulty layer number) = Some (layer, number)
   verdict_fault bookings (Taken after brought) = brought_fault after.plan bookings brought
 
   -- the same of the word that follows these words
@@ -68,5 +67,5 @@ module _ (joins : ℕ → ℕ → ℕ → ℕ) where
   -- what the end of a file after these words tells, if it is a fault: FILE's own, else the opening's
   abbrev pub end_tells : List (Option Word) → (place over : ℕ) → Option Told
   end_tells words place over =
-      option_or (option_map as_told (end_fault (reading_of words).standing place over))
+      option_or (end_fault (reading_of words).standing place over)
       (opening_tells (reading_of words).standing place)

@@ -38,7 +38,7 @@ module _ {A B C D : Type 0} (a : Source A) (b : Source B) (c : Source C) (d : So
     pub gave : Gave before (map encoded (file_words plan bookings)) reached
     pub ended : Ended reached after
     pub no_more : left_over after ≡ 0
-    pub stands : Stands (terms_by joins plan) bookings (state_of a b c d month)
+    pub stands : Stands (terms_by joins plan) bookings (state_of month)
 
   -- what is left where these words were taken: the plan that they made, with no booking yet, and the sources; or the open
   -- month with all bookings that they brought
@@ -46,7 +46,7 @@ module _ {A B C D : Type 0} (a : Source A) (b : Source B) (c : Source C) (d : So
   LeftBy words (Planned plan sources) =
       (contents plan ≡ (reading_of words).standing.plan) × ((reading_of words).bookings ≡ []) × (source_joins a b c d sources ≡ joins)
   LeftBy words (Opened month) =
-      Stands (terms_by joins (reading_of words).standing.plan) (reading_of words).bookings (state_of a b c d month.0)
+      Stands (terms_by joins (reading_of words).standing.plan) (reading_of words).bookings (state_of month.0)
 
   -- Of the words that were given some were taken. Those are left, and a fault that tells something tells the first word that a
   -- layer refuses, or the end.

@@ -23,6 +23,7 @@ use Rattle.words.specs.declared.word.Word.{Word}
 use Rattle.loading.specs.Faults.{told}
 use Rattle.loading.specs.Layers.{NoneRefused, has_opened, reading_of, terms_by, word_fault}
 use Rattle.loading.specs.Loading.{TellsOf}
+use Rattle.loading.specs.declared.bookings.Bookings.{Bookings}
 use Rattle.loading.specs.declared.fault.LoadFault.{LoadFault}
 use Rattle.loading.specs.declared.left.Left.TheVariants.{Planned, Opened}
 use Rattle.loading.specs.declared.left.Stopped.{Stopped}
@@ -91,6 +92,20 @@ pub record BooksAt (joins : ℕ → ℕ → ℕ → ℕ) (words : List (Option W
   pub books : Books joins words state
   pub phase_is : (reading_of words).standing.phase ≡ phase
 
+-- what the month of the second stage holds
+abbrev pub held : {A B C D : Type 0} {a : Source A} {b : Source B} {c : Source C} {d : Source D} → Bookings A B C D a b c d → State
+held {a = a} {b = b} {c = c} {d = d} bookings = state_of bookings.month.0
+
+-- what holds after whatever words the second stage stands by
+abbrev pub AfterWords : {A B C D : Type 0} {a : Source A} {b : Source B} {c : Source C} {d : Source D} →
+    Bookings A B C D a b c d →
+    ((joins : ℕ → ℕ → ℕ → ℕ) → List (Option Word) → Type 0) →
+    Type 0
+AfterWords bookings Holds =
+    (joins : ℕ → ℕ → ℕ → ℕ) (words : List (Option Word)) →
+    BooksAt joins words bookings.reader.phase (held bookings) →
+    Holds joins words
+
 module _ (joins : ℕ → ℕ → ℕ → ℕ) (words : List (Option Word)) where
   -- what one word more leaves, or the fault that it tells
   abbrev pub WordBooked : (place bits : ℕ) → Result (Unit {0}) LoadFault → (phase : Phase) (state : State) → Type 0
@@ -129,7 +144,7 @@ module _ (joins : ℕ → ℕ → ℕ → ℕ) (words : List (Option Word)) wher
 module _ {A B C D : Type 0} (a : Source A) (b : Source B) (c : Source C) (d : Source D) where
   -- the month is opened, or what PLAN tells at this place, with the plan and the sources handed back
   abbrev pub Opens : (plan : Plan) (sources : Sources A B C D) (place : ℕ) → Result (Open (Month A B C D a b c d)) (Stopped A B C D a b c d) → Type 0
-  Opens plan sources place (Ok month) = Stands (terms_of a b c d plan sources) [] (state_of a b c d month.0)
+  Opens plan sources place (Ok month) = Stands (terms_of a b c d plan sources) [] (state_of month.0)
   Opens plan sources place (Err stopped) =
       (back : Sources A B C D) × (stopped.left ≡ Planned plan back) × (source_joins a b c d back ≡ source_joins a b c d sources)
       × ((t : Told) →
@@ -138,7 +153,7 @@ module _ {A B C D : Type 0} (a : Source A) (b : Source B) (c : Source C) (d : So
 
   -- the rest of the file is booked, or the month is left as far as it was
   abbrev pub RestBooked : {R : Type 0} (joins : ℕ → ℕ → ℕ → ℕ) (words : List (Option Word)) (before after : FileWords R) → Result (Open (Month A B C D a b c d)) (Stopped A B C D a b c d) → Type 0
-  RestBooked joins words before after (Ok month) = BooksEnded joins words before after (state_of a b c d month.0)
+  RestBooked joins words before after (Ok month) = BooksEnded joins words before after (state_of month.0)
   RestBooked joins words before after (Err stopped) =
       (month : Open (Month A B C D a b c d)) × (stopped.left ≡ Opened month)
-      × BooksStopped joins words before after (state_of a b c d month.0) stopped.fault
+      × BooksStopped joins words before after (state_of month.0) stopped.fault

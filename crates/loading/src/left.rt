@@ -1,9 +1,10 @@
 // What a loading that stops leaves.
 ghost use Rattle.std.specs.Prelude.{◌≡◌};
-ghost use Rattle.loading.specs.Left.{held_by, plan_of};
+ghost use Rattle.loading.specs.Left.{held_by, plan_of, stopped_by};
 
 use crate::fault::LoadFault;
-use month::{Month, Open, Sources};
+use month::{Month, Open, Sources, Unopened};
+use monthfile::Placed;
 use plan::Plan;
 use weights::WeightSource;
 
@@ -30,6 +31,28 @@ impl<A: WeightSource, B: WeightSource, C: WeightSource, D: WeightSource> Left<A,
         match self {
             Left::Planned { plan, sources } => (plan, sources),
             Left::Opened(month) => month.abandon(),
+        }
+    }
+}
+
+impl<A: WeightSource, B: WeightSource, C: WeightSource, D: WeightSource> From<
+    Placed<Unopened<A, B, C, D>>,
+> for Stopped<A, B, C, D> {
+    ghost from_gives = { λ refused r. r ≡ stopped_by refused };
+
+    // A refused opening leaves what it hands back.
+    fn from(refused: Placed<Unopened<A, B, C, D>>) -> Stopped<A, B, C, D> {
+        let Placed {
+            fault: Unopened {
+                fault,
+                plan,
+                sources,
+            },
+            place,
+        } = refused;
+        Stopped {
+            fault: Placed { fault, place }.into(),
+            left: Left::Planned { plan, sources },
         }
     }
 }

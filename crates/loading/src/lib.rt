@@ -2,10 +2,11 @@
 // each amount is booked as its word is judged.
 #![tactic(auto)]
 
+mod bookings;
 mod fault;
 mod left;
 mod loads;
-mod stages;
+mod plan_words;
 
 pub use fault::LoadFault;
 pub use left::{Left, Stopped};

@@ -1,5 +1,5 @@
 -- Calls made one after another.
-use Rattle.std.proofs.Common.{ℕ, ◌+◌, ◌<◌, List, [], ◌∷◌, ◌++◌, length, get_or, take, sym, subst}
+use Rattle.std.proofs.Common.{ℕ, ◌+◌, ◌<◌, List, [], ◌∷◌, ◌++◌, length, get_or, take, sym, subst, Result}
 use Rattle.std.proofs.lemmas.List.{take_more}
 use Rattle.std.proofs.lemmas.List.Sums.{fold_more}
 use Rattle.plan.specs.declared.booking.Booking.{Booking}
@@ -8,9 +8,10 @@ use Rattle.month.specs.Stands.{Stands, State}
 use Rattle.month.specs.Terms.{Terms}
 use Rattle.month.specs.declared.call.Answer.{Answer}
 use Rattle.month.specs.declared.call.Call.{Call}
+use Rattle.month.specs.declared.fault.BookingFault.{BookingFault}
 
 -- one call more is answered over what those before it left
-pub answers_push : (terms : Terms) (bookings : List Booking) (calls : List Call) (answers : List Answer) (call : Call) (answer : Answer) →
+pub answers_push : (terms : Terms) (bookings : List Booking) (calls : List Call) (answers : List (Result Answer BookingFault)) (call : Call) (answer : Result Answer BookingFault) →
     AnswersEach terms bookings calls answers →
     Answers terms (accepted_from terms bookings calls) call answer →
     AnswersEach terms bookings (calls ++ call ∷ []) (answers ++ answer ∷ [])
@@ -21,7 +22,7 @@ answers_push terms bookings (c ∷ cs) (a ∷ rest) call answer each next =
     (each.0, answers_push terms (after_call terms bookings c) cs rest call answer each.1 next)
 
 -- one turn: the call at place i is answered over what those before it left
-pub next_call : (terms : Terms) (bookings : List Booking) (calls : List Call) (i : ℕ) (d : Call) (answers : List Answer) (answer : Answer)
+pub next_call : (terms : Terms) (bookings : List Booking) (calls : List Call) (i : ℕ) (d : Call) (answers : List (Result Answer BookingFault)) (answer : Result Answer BookingFault)
     (before after : State) →
     i < length calls →
     Stands terms (accepted_from terms bookings (take i calls)) before × AnswersEach terms bookings (take i calls) answers →

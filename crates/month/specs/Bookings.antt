@@ -1,6 +1,6 @@
 -- What a list of accepted bookings makes of a month: each meter's hours and weight, each hour's sum, and which booking
 -- or question is refused next.
-use Rattle.std.specs.Prelude.{ℕ, ◌-◌, Bool, cond, ◌&&◌, List, ◌++◌, map, is_some, Some, None, sum_by, count_by, filter, Option, ◌==◌, nat_le, nat_lt}
+use Rattle.std.specs.Prelude.{◌≡◌, ℕ, ◌-◌, Bool, cond, ◌&&◌, List, ◌++◌, map, is_some, Some, None, Ok, Err, sum_by, count_by, filter, Option, Result, ◌==◌, nat_le, nat_lt}
 use Rattle.book.specs.declared.fault.BookFault.TheVariants.{AlreadyBooked, Source}
 use Rattle.plan.specs.Contents.{Contents}
 use Rattle.plan.specs.Limits.{greatest_amount, most_meters, most_segments}
@@ -11,6 +11,7 @@ use Rattle.weights.specs.Limits.{greatest_weight}
 use Rattle.weights.specs.declared.fault.WeightFault.TheVariants.{TooHeavy}
 use Rattle.month.specs.Faults.{number_of}
 use Rattle.month.specs.Terms.{Terms, hours_of, peaks_of}
+use Rattle.month.specs.declared.fault.BookingFault.{BookingFault}
 use Rattle.month.specs.declared.fault.BookingFault.TheVariants.{OutOfRange, Unassigned, Refused}
 
 -- is it a booking of this meter
@@ -51,6 +52,12 @@ is_assigned plan segment meter = is_some (holder_of plan segment meter)
 abbrev pub refused_or : Contents → (within : Bool) (segment meter : ℕ) (next : Option ℕ) → Option ℕ
 refused_or plan within segment meter next =
     cond within (cond (is_assigned plan segment meter) next (Some (number_of Unassigned))) (Some (number_of OutOfRange))
+
+-- What such a check answers: where it passes, what is next stands; else its fault stands, whatever is next.
+abbrev pub Checked : {X : Type 0} → Contents → (within : Bool) (segment meter : ℕ) → Result X BookingFault → Type 0
+Checked plan within segment meter (Ok _) = (next : Option ℕ) → refused_or plan within segment meter next ≡ next
+Checked plan within segment meter (Err fault) =
+    (next : Option ℕ) → refused_or plan within segment meter next ≡ Some (number_of fault)
 
 -- is there such a segment and such a meter
 abbrev pub meter_within : (segment meter : ℕ) → Bool

@@ -5,7 +5,7 @@ use Rattle.month.specs.Bookings.{ask_refusal, booked_of, booking_refusal, missin
 use Rattle.month.specs.Faults.{number_of}
 use Rattle.month.specs.Terms.{Terms, hours_of}
 use Rattle.month.specs.declared.call.Answer.{Answer}
-use Rattle.month.specs.declared.call.Answer.TheVariants.{Booked, Missing, Refused}
+use Rattle.month.specs.declared.call.Answer.TheVariants.{Booked, Missing}
 use Rattle.month.specs.declared.call.Call.{Call}
 use Rattle.month.specs.declared.call.Call.TheVariants.{Book, Ask}
 use Rattle.month.specs.declared.fault.BookingFault.{BookingFault}
@@ -39,16 +39,16 @@ AnswersQuestion terms bookings segment meter (Ok missing) =
 AnswersQuestion terms bookings segment meter (Err fault) = ask_refusal terms.contents segment meter ≡ Some (number_of fault)
 
 -- what a call answers
-abbrev pub Answers : Terms → List Booking → Call → Answer → Type 0
-Answers terms bookings (Book b) Booked = AnswersBooking terms bookings b (Ok tt)
-Answers terms bookings (Book b) (Missing n) = ⊥
-Answers terms bookings (Book b) (Refused fault) = AnswersBooking terms bookings b (Err fault)
-Answers terms bookings (Ask segment meter) Booked = ⊥
-Answers terms bookings (Ask segment meter) (Missing n) = AnswersQuestion terms bookings segment meter (Ok n)
-Answers terms bookings (Ask segment meter) (Refused fault) = AnswersQuestion terms bookings segment meter (Err fault)
+abbrev pub Answers : Terms → List Booking → Call → Result Answer BookingFault → Type 0
+Answers terms bookings (Book b) (Ok Booked) = AnswersBooking terms bookings b (Ok tt)
+Answers terms bookings (Book b) (Ok (Missing n)) = ⊥
+Answers terms bookings (Book b) (Err fault) = AnswersBooking terms bookings b (Err fault)
+Answers terms bookings (Ask segment meter) (Ok Booked) = ⊥
+Answers terms bookings (Ask segment meter) (Ok (Missing n)) = AnswersQuestion terms bookings segment meter (Ok n)
+Answers terms bookings (Ask segment meter) (Err fault) = AnswersQuestion terms bookings segment meter (Err fault)
 
 -- what calls answer one by one, each over the bookings that those before it left
-abbrev pub AnswersEach : Terms → List Booking → List Call → List Answer → Type 0
+abbrev pub AnswersEach : Terms → List Booking → List Call → List (Result Answer BookingFault) → Type 0
 AnswersEach terms bookings [] [] = Unit {0}
 AnswersEach terms bookings [] (answer ∷ answers) = ⊥
 AnswersEach terms bookings (call ∷ calls) [] = ⊥

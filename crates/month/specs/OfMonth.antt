@@ -1,7 +1,7 @@
 -- What sources, books and a month hold, as plain values. The members of each source's trait say what it means.
 use Rattle.std.specs.Prelude.{◌≡◌, ℕ, List}
-use Rattle.book.specs.Contents.{Contents as BookContents, contents_of}
-use Rattle.book.specs.declared.book.Book.{Book}
+use Rattle.book.specs.Contents.{Contents as BookContents}
+use Rattle.book.specs.OfBook.{book_contents}
 use Rattle.plan.specs.OfPlan.{contents as plan_contents}
 use Rattle.plan.specs.declared.plan.Plan.{Plan}
 use Rattle.weights.specs.Answers.{zero_weights}
@@ -15,10 +15,6 @@ use Rattle.month.specs.declared.four.Four.{Four}
 use Rattle.month.specs.declared.month.Month.{Month}
 use Rattle.month.specs.declared.opening.Unopened.{Unopened}
 use Rattle.month.specs.declared.sources.Sources.{Sources}
-
--- what a book holds
-abbrev pub book_contents : {S : Type 0} (source : Source S) → Book S source → BookContents
-book_contents source book = contents_of book.tables (source.weights book.source)
 
 -- the sources that books hold
 abbrev pub held_sources : {A B C D : Type 0} {a : Source A} {b : Source B} {c : Source C} {d : Source D} →
@@ -61,15 +57,15 @@ module _ {A B C D : Type 0} (a : Source A) (b : Source B) (c : Source C) (d : So
     pub plan_left : unopened.plan ≡ plan
     pub sources_left : SourcesLeft unopened.fault sources unopened.sources
 
+module _ {A B C D : Type 0} {a : Source A} {b : Source B} {c : Source C} {d : Source D} where
   -- the joining of each source that books hold
   abbrev pub book_joins : Four A B C D a b c d → ℕ → ℕ → ℕ → ℕ
-  book_joins four = source_joins (held_sources four)
+  book_joins four = source_joins a b c d (held_sources four)
 
   -- what each segment's book holds
   abbrev pub books_of : Four A B C D a b c d → ℕ → BookContents
   books_of four =
-      by_segment (book_contents a four.amr) (book_contents b four.s30) (book_contents c four.mrc)
-      (book_contents d four.eav)
+      by_segment (book_contents four.amr) (book_contents four.s30) (book_contents four.mrc) (book_contents four.eav)
 
   -- what a month holds
   abbrev pub state_of : Month A B C D a b c d → State

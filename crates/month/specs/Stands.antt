@@ -36,6 +36,10 @@ pub record Stands (terms : Terms) (bookings : List Booking) (state : State) : Ty
   pub taken : accepted terms (map Book bookings) ≡ bookings
   pub books : (segment : ℕ) → segment < most_segments → BookStands terms bookings segment (state.books segment)
 
+-- what holds of all terms and bookings that the state stands as
+abbrev pub AsStands : State → (Terms → List Booking → Type 0) → Type 0
+AsStands state Holds = (terms : Terms) (bookings : List Booking) → Stands terms bookings state → Holds terms bookings
+
 -- nothing that a month holds has changed
 pub record Unchanged (before after : State) : Type 0 where
   pub contents : after.contents ≡ before.contents

@@ -1,8 +1,7 @@
-use crate::fault::BookingFault;
 use plan::Booking;
 
 /// One call on an open month.
-#[derive(Clone, Copy)]
+#[derive(Clone, Copy, PartialEq, Eq, Debug)]
 pub enum Call {
     /// Book the amount of a meter in an hour.
     Book(Booking),
@@ -10,13 +9,11 @@ pub enum Call {
     Ask { segment: u32, meter: u32 },
 }
 
-/// What a call answers.
-#[derive(Clone, Copy)]
+/// What a call that is not refused answers.
+#[derive(Clone, Copy, PartialEq, Eq, Debug)]
 pub enum Answer {
     /// The booking is accepted.
     Booked,
     /// The meter misses so many hours.
     Missing(u64),
-    /// The call is refused, and changed nothing.
-    Refused(BookingFault),
 }

@@ -21,6 +21,7 @@ impl BookingFault {
     pub fn number(&self) -> u8
         ensures { result ≡ number_of self.now }
     {
+        // A match, since `as` takes no enum whose variants have fields.
         match self {
             BookingFault::OutOfRange => 3,
             BookingFault::Unassigned => 4,
@@ -53,6 +54,7 @@ impl OpeningFault {
     pub fn number(&self) -> Option<u8>
         ensures { result ≡ opening_number_of self.now }
     {
+        // A match, since `as` takes no enum whose variants have fields.
         match self {
             OpeningFault::NotFull => Some(2),
             OpeningFault::Peak(below) => Some(below.number()),

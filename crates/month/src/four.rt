@@ -7,14 +7,16 @@ ghost use Rattle.plan.specs.Limits.{amr as first_segment, most_segments};
 ghost use Rattle.plan.specs.WellMade.{ascending};
 ghost use Rattle.weights.specs.Answers.{ask_refusal};
 ghost use Rattle.month.specs.Faults.{opening_number_of};
-ghost use Rattle.month.specs.OfMonth.{book_contents, book_joins, books_of, held_sources, source_joins};
+ghost use Rattle.book.specs.OfBook.{book_contents};
+ghost use Rattle.plan.specs.Segments.{segment_number};
+ghost use Rattle.month.specs.OfMonth.{book_joins, books_of, held_sources, source_joins};
 ghost use Rattle.month.specs.Opening.{PeaksNoted, peaks_light};
 
 use crate::fault::OpeningFault;
 use crate::peaks::carry_peaks;
 use crate::sources::Sources;
 use book::{Book, BookFault};
-use plan::{Booking, CarriedPeak};
+use plan::{Booking, CarriedPeak, Segment};
 use std::alloc::Global;
 use weights::WeightSource;
 
@@ -32,10 +34,11 @@ impl<A: WeightSource, B: WeightSource, C: WeightSource, D: WeightSource> Four<A,
         heap: Global,
         sources: Sources<A, B, C, D>,
     ) -> Result<Four<A, B, C, D>, Sources<A, B, C, D>>
-        ensures opened { IfOk result (λ four. (s : ℕ) → Opened (books_of A.WeightSource B.WeightSource C.WeightSource D.WeightSource four s)) }
-        ensures joins { MatchResult result (λ four. book_joins A.WeightSource B.WeightSource C.WeightSource D.WeightSource four ≡ source_joins A.WeightSource B.WeightSource C.WeightSource D.WeightSource sources) (λ left. source_joins A.WeightSource B.WeightSource C.WeightSource D.WeightSource left ≡ source_joins A.WeightSource B.WeightSource C.WeightSource D.WeightSource sources) }
+        ensures opened { IfOk result (λ four. (s : ℕ) → Opened (books_of four s)) }
+        ensures joins { MatchResult result (λ four. book_joins four ≡ source_joins A.WeightSource B.WeightSource C.WeightSource D.WeightSource sources) (λ left. source_joins A.WeightSource B.WeightSource C.WeightSource D.WeightSource left ≡ source_joins A.WeightSource B.WeightSource C.WeightSource D.WeightSource sources) }
     {
         let Sources { amr, s30, mrc, eav } = sources;
+        // Matches, since either outcome takes the sources that are left, which one closure alone could.
         match open_two(heap, amr, s30) {
             Ok((amr, s30)) => match open_two(heap, mrc, eav) {
                 Ok((mrc, eav)) => Ok(Four { amr, s30, mrc, eav }),
@@ -52,13 +55,13 @@ impl<A: WeightSource, B: WeightSource, C: WeightSource, D: WeightSource> Four<A,
 
     /// Notes the carried peaks in the first segment's book.
     pub(crate) fn carry(&mut self, peaks: &[CarriedPeak]) -> Result<(), OpeningFault>
-        requires opened { (s : ℕ) → Opened (books_of A.WeightSource B.WeightSource C.WeightSource D.WeightSource self.old s) }
+        requires opened { (s : ℕ) → Opened (books_of self.old s) }
         requires fit { list_all peak_fits peaks.now ≡ true }
         requires ascend { ascending peak_precedes peaks.now ≡ true }
-        ensures noted { MatchResult result (λ _. PeaksNoted (book_joins A.WeightSource B.WeightSource C.WeightSource D.WeightSource self.old first_segment) peaks.now (books_of A.WeightSource B.WeightSource C.WeightSource D.WeightSource self.old first_segment) (books_of A.WeightSource B.WeightSource C.WeightSource D.WeightSource self.new first_segment)) (λ fault. opening_number_of fault ≡ Some 6) }
-        ensures light { MatchResult result (λ _. peaks_light (book_joins A.WeightSource B.WeightSource C.WeightSource D.WeightSource self.old first_segment) peaks.now ≡ true) (λ _. peaks_light (book_joins A.WeightSource B.WeightSource C.WeightSource D.WeightSource self.old first_segment) peaks.now ≡ false) }
-        ensures others { (s : ℕ) → (s ≢ first_segment) → books_of A.WeightSource B.WeightSource C.WeightSource D.WeightSource self.new s ≡ books_of A.WeightSource B.WeightSource C.WeightSource D.WeightSource self.old s }
-        ensures joins { book_joins A.WeightSource B.WeightSource C.WeightSource D.WeightSource self.new ≡ book_joins A.WeightSource B.WeightSource C.WeightSource D.WeightSource self.old }
+        ensures noted { MatchResult result (λ _. PeaksNoted (book_joins self.old first_segment) peaks.now (books_of self.old first_segment) (books_of self.new first_segment)) (λ fault. opening_number_of fault ≡ Some 6) }
+        ensures light { MatchResult result (λ _. peaks_light (book_joins self.old first_segment) peaks.now ≡ true) (λ _. peaks_light (book_joins self.old first_segment) peaks.now ≡ false) }
+        ensures others { (s : ℕ) → (s ≢ first_segment) → books_of self.new s ≡ books_of self.old s }
+        ensures joins { book_joins self.new ≡ book_joins self.old }
     {
         carry_peaks(&mut self.amr, peaks)
     }
@@ -76,35 +79,39 @@ impl<A: WeightSource, B: WeightSource, C: WeightSource, D: WeightSource> Four<A,
         }
     }
 
-    /// Books in the book of the booking's segment.
-    pub(crate) fn book_in(&mut self, booking: &Booking) -> Result<(), BookFault>
-        requires { booking.now.segment < most_segments }
-        ensures booked { Booked (book_joins A.WeightSource B.WeightSource C.WeightSource D.WeightSource self.old booking.now.segment) (books_of A.WeightSource B.WeightSource C.WeightSource D.WeightSource self.old booking.now.segment) booking.now.meter booking.now.hour booking.now.amount result (books_of A.WeightSource B.WeightSource C.WeightSource D.WeightSource self.new booking.now.segment) }
-        ensures others { (s : ℕ) → s < most_segments → (s ≢ booking.now.segment) → books_of A.WeightSource B.WeightSource C.WeightSource D.WeightSource self.new s ≡ books_of A.WeightSource B.WeightSource C.WeightSource D.WeightSource self.old s }
-        ensures joins { book_joins A.WeightSource B.WeightSource C.WeightSource D.WeightSource self.new ≡ book_joins A.WeightSource B.WeightSource C.WeightSource D.WeightSource self.old }
+    /// Books in the segment's book.
+    pub(crate) fn book_in(&mut self, segment: Segment, booking: &Booking) -> Result<(), BookFault>
+        ensures booked { Booked (book_joins self.old (segment_number segment)) (books_of self.old (segment_number segment)) booking.now.meter booking.now.hour booking.now.amount result (books_of self.new (segment_number segment)) }
+        ensures others { (s : ℕ) → s < most_segments → (s ≢ segment_number segment) → books_of self.new s ≡ books_of self.old s }
+        ensures joins { book_joins self.new ≡ book_joins self.old }
     {
         let meter = u64::from(booking.meter);
         let hour = u64::from(booking.hour);
         let amount = u64::from(booking.amount);
-        match booking.segment {
-            0 => self.amr.book(meter, hour, amount),
-            1 => self.s30.book(meter, hour, amount),
-            2 => self.mrc.book(meter, hour, amount),
-            _ => self.eav.book(meter, hour, amount),
+        match segment {
+            Segment::Amr => self.amr.book(meter, hour, amount),
+            Segment::S30 => self.s30.book(meter, hour, amount),
+            Segment::Mrc => self.mrc.book(meter, hour, amount),
+            Segment::Eav => self.eav.book(meter, hour, amount),
         }
     }
 
     /// How many of the month's hours a meter of the segment still misses.
-    pub(crate) fn missing_in(&self, segment: u32, meter: u32, hours: u32) -> Result<u64, BookFault>
-        ensures { Answered (ask_refusal meter) (hours - count_at (books_of A.WeightSource B.WeightSource C.WeightSource D.WeightSource self.now segment) meter) result }
+    pub(crate) fn missing_in(
+        &self,
+        segment: Segment,
+        meter: u32,
+        hours: u32,
+    ) -> Result<u64, BookFault>
+        ensures { Answered (ask_refusal meter) (hours - count_at (books_of self.now (segment_number segment)) meter) result }
     {
         let meter = u64::from(meter);
         let hours = u64::from(hours);
         match segment {
-            0 => self.amr.missing(meter, hours),
-            1 => self.s30.missing(meter, hours),
-            2 => self.mrc.missing(meter, hours),
-            _ => self.eav.missing(meter, hours),
+            Segment::Amr => self.amr.missing(meter, hours),
+            Segment::S30 => self.s30.missing(meter, hours),
+            Segment::Mrc => self.mrc.missing(meter, hours),
+            Segment::Eav => self.eav.missing(meter, hours),
         }
     }
 }
@@ -115,9 +122,10 @@ fn open_two<S: WeightSource, T: WeightSource>(
     first: S,
     second: T,
 ) -> Result<(Book<S>, Book<T>), (S, T)>
-    ensures opened { IfOk result (λ books. Opened (book_contents S.WeightSource books.0) × Opened (book_contents T.WeightSource books.1)) }
-    ensures joins { MatchResult result (λ books. (S.WeightSource.joining books.0.source ≡ S.WeightSource.joining first) × (T.WeightSource.joining books.1.source ≡ T.WeightSource.joining second)) (λ left. (S.WeightSource.joining left.0 ≡ S.WeightSource.joining first) × (T.WeightSource.joining left.1 ≡ T.WeightSource.joining second)) }
+    ensures opened { IfOk result (λ books. Opened (book_contents books.0) × Opened (book_contents books.1)) }
+    ensures joins { MatchResult result (λ books. (S.joining books.0.source ≡ S.joining first) × (T.joining books.1.source ≡ T.joining second)) (λ left. (S.joining left.0 ≡ S.joining first) × (T.joining left.1 ≡ T.joining second)) }
 {
+    // Matches, since either outcome takes the other source too, which one closure alone could.
     let first = match Book::open(heap, first) {
         Ok(book) => book,
         Err((_, source)) => return Err((source, second)),

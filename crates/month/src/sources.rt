@@ -3,7 +3,7 @@ ghost use Rattle.month.specs.OfMonth.{IsReset};
 
 use weights::WeightSource;
 
-/// The weight sources of the four segments.
+/// The weight sources of the four segments. Clauses on them name the four bounds, which their type does not show.
 #[derive(Drop)]
 pub struct Sources<A, B, C, D> {
     pub amr: A,

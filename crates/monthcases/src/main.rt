@@ -4,8 +4,8 @@
 mod plans;
 mod steep;
 
-use anyhow::{Context, anyhow};
-use month::{Answer, Call, Month, Open, Sources, Unopened};
+use anyhow::Context;
+use month::{Answer, BookingFault, Call, Month, Open, Sources, Unopened};
 use plan::{Booking, Plan};
 use plans::plan_of;
 use steep::Steep;
@@ -26,6 +26,11 @@ fn sources() -> SteepSources {
     }
 }
 
+fn show_refusal(rt: &HostRuntime, label: &str, number: u8) -> anyhow::Result<()> {
+    println!(rt; "{label}: refused {number}")?;
+    Ok(())
+}
+
 fn show_weight(
     rt: &HostRuntime,
     label: &str,
@@ -33,10 +38,7 @@ fn show_weight(
 ) -> anyhow::Result<()> {
     match weight {
         Ok(weight) => println!(rt; "{label}: weight {weight}")?,
-        Err(fault) => {
-            let number = fault.number();
-            println!(rt; "{label}: refused {number}")?;
-        }
+        Err(fault) => show_refusal(rt, label, fault.number())?,
     }
     Ok(())
 }
@@ -44,10 +46,7 @@ fn show_weight(
 fn show_note(rt: &HostRuntime, label: &str, noted: Result<(), WeightFault>) -> anyhow::Result<()> {
     match noted {
         Ok(()) => println!(rt; "{label}: taken")?,
-        Err(fault) => {
-            let number = fault.number();
-            println!(rt; "{label}: refused {number}")?;
-        }
+        Err(fault) => show_refusal(rt, label, fault.number())?,
     }
     Ok(())
 }
@@ -86,7 +85,7 @@ fn show_unopened(
         }
         Err(unopened) => {
             let number = unopened.fault.number().context("out of memory")?;
-            println!(rt; "{label}: refused {number}")?;
+            show_refusal(rt, label, number)?;
             Ok(unopened.sources)
         }
     }
@@ -109,14 +108,15 @@ fn show_openings(rt: &HostRuntime) -> anyhow::Result<()> {
     show_weight(rt, "AMR then", back.amr.weight(63))
 }
 
-fn show_answer(rt: &HostRuntime, label: &str, answer: &Answer) -> anyhow::Result<()> {
+fn show_answer(
+    rt: &HostRuntime,
+    label: &str,
+    answer: &Result<Answer, BookingFault>,
+) -> anyhow::Result<()> {
     match answer {
-        Answer::Booked => println!(rt; "{label}: taken")?,
-        Answer::Missing(hours) => println!(rt; "{label}: {hours}")?,
-        Answer::Refused(fault) => {
-            let number = fault.number();
-            println!(rt; "{label}: refused {number}")?;
-        }
+        Ok(Answer::Booked) => println!(rt; "{label}: taken")?,
+        Ok(Answer::Missing(hours)) => println!(rt; "{label}: {hours}")?,
+        Err(fault) => show_refusal(rt, label, fault.number())?,
     }
     Ok(())
 }
@@ -182,17 +182,15 @@ fn show_month(rt: &HostRuntime, month: &mut SteepMonth) -> anyhow::Result<()> {
 
 fn show_open(rt: &HostRuntime) -> anyhow::Result<()> {
     let plan = plan_of(rt.alloc(), &[(0, 10)])?;
-    match Open::open(rt.alloc(), plan, sources()) {
-        Ok(mut month) => {
-            let result = show_month(rt, &mut month);
-            let (_, sources) = month.abandon();
-            result?;
-            show_weight(rt, "meter 0 of segment 0", sources.amr.weight(0))?;
-            show_weight(rt, "meter 63 of segment 0", sources.amr.weight(63))?;
-            show_weight(rt, "meter 5 of segment 3", sources.eav.weight(5))
-        }
-        Err(_) => Err(anyhow!("not opened")),
-    }
+    let mut month = Open::open(rt.alloc(), plan, sources())
+        .ok()
+        .context("not opened")?;
+    let result = show_month(rt, &mut month);
+    let (_, sources) = month.abandon();
+    result?;
+    show_weight(rt, "meter 0 of segment 0", sources.amr.weight(0))?;
+    show_weight(rt, "meter 63 of segment 0", sources.amr.weight(63))?;
+    show_weight(rt, "meter 5 of segment 3", sources.eav.weight(5))
 }
 
 fn main(rt: HostRuntime) -> anyhow::Result<()> {

@@ -1,31 +1,17 @@
 // A weight source that grows so fast that a few amounts pass the greatest weight.
-ghost use Rattle.std.specs.Prelude.{◌≡◌, ◌+◌, ◌*◌, length};
-ghost use Rattle.weights.specs.Limits.{meter_count};
+ghost use Rattle.std.specs.Prelude.{◌+◌, ◌*◌};
 ghost use Rattle.std.proofs.Common.{rules};
 
-use weights::{MAX_AMOUNT, MAX_WEIGHT, METERS, WeightFault, WeightSource};
+use weights::{Joining, WeightTable};
 
 // Joins to the weight and a thousand times the amount.
 #[derive(Drop)]
-pub struct Steep {
-    weights: [u64; METERS],
-    ghost sized: { length weights ≡ meter_count },
-}
+pub struct Thousandfold;
 
-impl Steep {
-    pub fn new() -> Steep {
-        Steep {
-            weights: [0; METERS],
-        }
-    }
-}
+pub type Steep = WeightTable<Thousandfold>;
 
-impl WeightSource for Steep {
-    ghost weights = { λ s. s.weights };
-
-    ghost joining = { λ _ weight amount. weight + 1000 * amount };
-
-    ghost sized = { Prim.search rules };
+impl Joining for Thousandfold {
+    ghost joining = { λ weight amount. weight + 1000 * amount };
 
     ghost swaps = { Prim.search rules };
 
@@ -33,26 +19,7 @@ impl WeightSource for Steep {
 
     ghost covers = { Prim.search rules };
 
-    fn reset(&mut self) {
-        self.weights = [0; METERS];
-    }
-
-    fn note(&mut self, meter: u64, amount: u64) -> Result<(), WeightFault> {
-        if meter >= METERS as u64 || amount > MAX_AMOUNT {
-            return Err(WeightFault::OutOfRange);
-        }
-        let joined = self.weights[meter as usize].saturating_add(1000 * amount);
-        if joined > MAX_WEIGHT {
-            return Err(WeightFault::TooHeavy);
-        }
-        self.weights[meter as usize] = joined;
-        Ok(())
-    }
-
-    fn weight(&self, meter: u64) -> Result<u64, WeightFault> {
-        if meter >= METERS as u64 {
-            return Err(WeightFault::OutOfRange);
-        }
-        Ok(self.weights[meter as usize])
+    fn join(weight: u64, amount: u64) -> u64 {
+        weight.saturating_add(amount.saturating_mul(1000))
     }
 }

@@ -18,18 +18,17 @@ fn tell(rt: &HostRuntime, text: &str, fault: ReadFault) -> anyhow::Result<()> {
 fn main(rt: HostRuntime) -> anyhow::Result<()> {
     let mut blocks = Blocks::new(rt.alloc(), rt.stdin())?;
     let mut reader = Reader::new(rt.alloc());
+    // A count, since each loop is proved to end and the input need not.
     for _ in 0..u64::MAX {
         if !blocks.advance()? {
             break;
         }
         let mut text = String::new(rt.alloc());
-        if let Err(fault) = dump_block(&mut reader, blocks.block(), blocks.first(), &mut text) {
-            return tell(&rt, text.as_str(), fault);
-        }
+        let shown = dump_block(&mut reader, blocks.block(), blocks.first(), &mut text);
+        shown.or_else(|fault| tell(&rt, text.as_str(), fault))?;
         rt.print(text)?;
     }
-    if let Err(fault) = reader.check_end(blocks.words(), blocks.left_over()) {
-        return tell(&rt, "", fault);
-    }
-    Ok(())
+    reader
+        .check_end(blocks.words(), blocks.left_over())
+        .or_else(|fault| tell(&rt, "", fault))
 }

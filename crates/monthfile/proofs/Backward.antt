@@ -4,29 +4,30 @@ use Rattle.std.specs.List.{flat_map}
 use Rattle.std.proofs.lemmas.List.{append-nil, flat_map_more, map-append}
 use Rattle.std.proofs.lemmas.Bool.{false≢true}
 use Rattle.std.proofs.lemmas.Bool.Decides.{nat_tests}
-use Rattle.plan.specs.Calls.{PlanCall, SetPeriod, AddSegment, AddMeter, AddCarried, refusal_of, after_call}
+use Rattle.plan.specs.Calls.{PlanCall, SetPeriod, AddMeter, AddCarried, refusal_of, after_call}
 use Rattle.plan.specs.Contents.{Contents}
 use Rattle.plan.specs.Questions.{is_full}
 use Rattle.plan.specs.WellMade.{calls_of}
 use Rattle.plan.specs.declared.booking.Booking.{Booking}
 use Rattle.words.specs.Bytes.{number_at}
+use Rattle.words.specs.declared.spot.Spot.{Spot}
 use Rattle.words.specs.declared.word.Word.{Word}
 use Rattle.words.specs.declared.word.Word.TheVariants.{Period, Segment, Factor, Meter, Select, Amount, Carried}
 use Rattle.monthfile.specs.declared.brought.Brought.{Brought}
 use Rattle.monthfile.specs.declared.phase.Phase.{Phase}
 use Rattle.monthfile.specs.declared.phase.Phase.TheVariants.{Start, Segments, Terms, Meters, Peaks, Selected, Booked}
-use Rattle.monthfile.specs.File.{call_words, plan_words, Spot, spot_of, one_on, is_same_spot, comes_next, select_words, booking_words, file_words}
+use Rattle.monthfile.specs.File.{call_words, plan_words, spot_of, one_on, is_same_spot, comes_next, select_words, booking_words, file_words}
+use Rattle.monthfile.specs.declared.telling.Layer.{Layer}
+use Rattle.monthfile.specs.declared.telling.Layer.TheVariants.{File as FILE}
 use Rattle.monthfile.specs.Inverse.{Gave}
-use Rattle.monthfile.specs.Judging.{last_hour, may_stand, within_limits, redundant, call_of, plan_refusal, plan_after, phase_after, brought_by, by_plan, Standing, beginning, Layer, FILE, Verdict, Faulty, Taken, judge}
+use Rattle.monthfile.specs.Judging.{last_hour, may_stand, within_limits, redundant, call_of, plan_refusal, plan_after, phase_after, brought_by, by_plan, Standing, beginning, terms_call, Verdict, Faulty, Taken, judge}
 use Rattle.monthfile.specs.Reading.{Reading, reading, gone_on, booking_of, may_end}
+use Rattle.monthfile.proofs.OneByOne.{some≢none}
 use Rattle.monthfile.proofs.Allowed.{Allowed, allowed, period, segment, factor, meter, first_peak, next_peak, select_after_meters, select_after_peaks, select_anew, selected_amount, next_amount}
 use Rattle.monthfile.proofs.Phases.{phase_for, Tidy, tidy_nothing, calls_push, tidy_kept, after_period, after_segment, after_meter, after_peak}
 
 faulty≢taken : {l : Layer} {n : ℕ} {s : Standing} {b : Brought} → Faulty l n ≡ Taken s b → ⊥
 faulty≢taken e = let z : ◌≡◌ {A = ℕ} 0 1 = cc in omega arith
-
-some≢none : {X : Type 0} {x : X} → Some x ≡ None → ⊥
-some≢none e = let z : ◌≡◌ {A = ℕ} 0 1 = cc in omega arith
 
 -- what a word that was taken passed, and what became of it
 pub record Passed (before : Standing) (word : Word) (after : Standing) (brought : Brought) : Type 0 where
@@ -56,11 +57,11 @@ passed before word after brought e =
 abbrev pending : Phase → List Word
 pending Start = []
 pending Segments = []
-pending (Terms s v t) = Segment s v t ∷ []
+pending (Terms given) = Segment given ∷ []
 pending Meters = []
 pending Peaks = []
-pending (Selected s m h) = Select s m h ∷ []
-pending (Booked s m h) = []
+pending (Selected spot) = Select spot ∷ []
+pending (Booked spot) = []
 
 -- the words behind a standing and the bookings so far
 abbrev so_far : Standing → List Booking → List Word
@@ -90,11 +91,11 @@ plan_words_push plan call tidy none = ap (flat_map call_words) (calls_push plan 
 abbrev Agrees : Phase → Contents → List Booking → Type 0
 Agrees Start plan bs = (phase_for plan ≡ Start) × (bs ≡ [])
 Agrees Segments plan bs = (phase_for plan ≡ Segments) × (bs ≡ [])
-Agrees (Terms s v t) plan bs = (phase_for plan ≡ Segments) × (bs ≡ [])
+Agrees (Terms given) plan bs = (phase_for plan ≡ Segments) × (bs ≡ [])
 Agrees Meters plan bs = (phase_for plan ≡ Meters) × (bs ≡ [])
 Agrees Peaks plan bs = (phase_for plan ≡ Peaks) × (bs ≡ [])
-Agrees (Selected s m h) plan bs = comes_next (next_after None bs) (record { segment = s; meter = m; hour = h }) ≡ false
-Agrees (Booked s m h) plan bs = next_after None bs ≡ Some (record { segment = s; meter = m; hour = h })
+Agrees (Selected spot) plan bs = comes_next (next_after None bs) spot ≡ false
+Agrees (Booked spot) plan bs = next_after None bs ≡ Some spot
 
 pub record Sound (st : Standing) (bs : List Booking) : Type 0 where
   pub tidy : Tidy st.plan
@@ -122,13 +123,12 @@ ends_selected p b s a = simp (append_assoc, append-nil)
 ends_booked : (p b : List Word) (a : Word) → p ++ ((b ++ a ∷ []) ++ []) ≡ (p ++ (b ++ [])) ++ a ∷ []
 ends_booked p b a = simp (append_assoc, append-nil)
 
-same_spot : (s m h : ℕ) → is_same_spot (record { segment = s; meter = m; hour = h }) (record { segment = s; meter = m; hour = h }) ≡ true
-same_spot s m h = grind (arith, nat_tests)
+same_spot : (spot : Spot) → is_same_spot spot spot ≡ true
+same_spot spot = grind (arith, nat_tests)
 
 -- a select that is not redundant names another hour than the one that comes next
-names_another : (s m h u n k : ℕ) → redundant (record { segment = s; meter = m; hour = h }) (Select u n k) ≡ false → leb k last_hour ≡ true
-    → is_same_spot (record { segment = s; meter = m; hour = h }) (record { segment = u; meter = n; hour = k }) ≡ false
-names_another s m h u n k other within = grind (arith, nat_tests)
+names_another : (next spot : Spot) → redundant next (Select spot) ≡ false → leb spot.hour last_hour ≡ true → is_same_spot next spot ≡ false
+names_another next spot other within = grind (arith, nat_tests)
 
 abbrev Goal : Phase → Contents → Word → List Booking → Type 0
 Goal phase plan word bs =
@@ -155,17 +155,17 @@ grows (period {y} {m} {h}) plan bs sound limits none =
       record { tidy = tidy_kept plan sound.tidy call none; agrees = (after_period plan sound.tidy (record { year = y; month = m; hours = h }) none, refl) },
       ends_call (plan_words (after_call plan call)) (plan_words plan) (call_words call) (plan_words_push plan call sound.tidy none),
     )
-grows (segment {s} {v} {t}) plan bs sound limits none =
-    subst (λ b. Goal Segments plan (Segment s v t) b) (sym sound.agrees.1)
-    (record { tidy = sound.tidy; agrees = (sound.agrees.0, refl) }, ends_plain (plan_words plan) [] (Segment s v t))
-grows (factor {s} {v} {t} {u} {f} e) plan bs sound limits none =
-    subst (λ b. Goal (Terms s v t) plan (Factor u f) b) (sym sound.agrees.1)
-    (let call : PlanCall = AddSegment s (record { service = v; tariff = t; factor = f }) in
+grows (segment {given}) plan bs sound limits none =
+    subst (λ b. Goal Segments plan (Segment given) b) (sym sound.agrees.1)
+    (record { tidy = sound.tidy; agrees = (sound.agrees.0, refl) }, ends_plain (plan_words plan) [] (Segment given))
+grows (factor {given} {u} {f} e) plan bs sound limits none =
+    subst (λ b. Goal (Terms given) plan (Factor u f) b) (sym sound.agrees.1)
+    (let call : PlanCall = terms_call given f in
     let after : Contents = after_call plan call in (
-      after_factor (is_full after) after (tidy_kept plan sound.tidy call none) (after_segment plan sound.tidy s (record { service = v; tariff = t; factor = f }) none),
+      after_factor (is_full after) after (tidy_kept plan sound.tidy call none) (after_segment plan sound.tidy given.segment (record { service = given.service; tariff = given.tariff; factor = f }) none),
       ap (λ ws. plan_words after ++ ([] ++ ws)) (nothing_pending (is_full after))
-          ∙ ends_factor (plan_words after) (plan_words plan) (Segment s v t) (Factor s f) (plan_words_push plan call sound.tidy none)
-          ∙ ap (λ x. (plan_words plan ++ ([] ++ Segment s v t ∷ [])) ++ Factor x f ∷ []) e,
+          ∙ ends_factor (plan_words after) (plan_words plan) (Segment given) (Factor given.segment f) (plan_words_push plan call sound.tidy none)
+          ∙ ap (λ x. (plan_words plan ++ ([] ++ Segment given ∷ [])) ++ Factor x f ∷ []) e,
     ))
 grows (meter {s} {u} {p} {m}) plan bs sound limits none =
     let call : PlanCall = AddMeter (record { segment = s; number = m; user = u; station = p }) in
@@ -185,30 +185,30 @@ grows (next_peak {m} {a}) plan bs sound limits none =
       record { tidy = tidy_kept plan sound.tidy call none; agrees = (after_peak plan sound.tidy (record { meter = m; amount = a }) none, refl) },
       ends_call (plan_words (after_call plan call)) (plan_words plan) (call_words call) (plan_words_push plan call sound.tidy none),
     )
-grows (select_after_meters {s} {m} {h}) plan bs sound limits none =
-    subst (λ b. Goal Meters plan (Select s m h) b) (sym sound.agrees.1)
-    (record { tidy = sound.tidy; agrees = refl }, ends_plain (plan_words plan) [] (Select s m h))
-grows (select_after_peaks {s} {m} {h}) plan bs sound limits none =
-    subst (λ b. Goal Peaks plan (Select s m h) b) (sym sound.agrees.1)
-    (record { tidy = sound.tidy; agrees = refl }, ends_plain (plan_words plan) [] (Select s m h))
-grows (select_anew {s} {m} {h} {u} {n} {k} other) plan bs sound limits none =
+grows (select_after_meters {spot}) plan bs sound limits none =
+    subst (λ b. Goal Meters plan (Select spot) b) (sym sound.agrees.1)
+    (record { tidy = sound.tidy; agrees = refl }, ends_plain (plan_words plan) [] (Select spot))
+grows (select_after_peaks {spot}) plan bs sound limits none =
+    subst (λ b. Goal Peaks plan (Select spot) b) (sym sound.agrees.1)
+    (record { tidy = sound.tidy; agrees = refl }, ends_plain (plan_words plan) [] (Select spot))
+grows (select_anew {next} {spot} other) plan bs sound limits none =
     let same : bs ++ [] ≡ bs = append-nil bs in
-    subst (λ b. Grown (at (Booked s m h) plan) bs (Select u n k) (at (Selected u n k) plan) b) (sym same) (
-      record { tidy = sound.tidy; agrees = ap (λ next. comes_next next (record { segment = u; meter = n; hour = k })) sound.agrees ∙ names_another s m h u n k other limits },
-      ends_plain (plan_words plan) (booking_words None bs) (Select u n k),
+    subst (λ b. Grown (at (Booked next) plan) bs (Select spot) (at (Selected spot) plan) b) (sym same) (
+      record { tidy = sound.tidy; agrees = ap (λ o. comes_next o spot) sound.agrees ∙ names_another next spot other limits },
+      ends_plain (plan_words plan) (booking_words None bs) (Select spot),
     )
-grows (selected_amount {s} {m} {h} {a}) plan bs sound limits none =
-    let b : Booking = record { segment = s; meter = m; hour = h; amount = a } in (
+grows (selected_amount {spot} {a}) plan bs sound limits none =
+    let b : Booking = record { segment = spot.segment; meter = spot.meter; hour = spot.hour; amount = a } in (
       record { tidy = sound.tidy; agrees = next_after_push None bs b },
       ap (λ ws. plan_words plan ++ (ws ++ [])) (booking_words_push None bs b ∙ ap (λ next. booking_words None bs ++ (select_words next (spot_of b) ++ Amount a ∷ [])) sound.agrees)
-          ∙ ends_selected (plan_words plan) (booking_words None bs) (Select s m h) (Amount a),
+          ∙ ends_selected (plan_words plan) (booking_words None bs) (Select spot) (Amount a),
     )
-grows (next_amount {s} {m} {h} {a}) plan bs sound limits none =
-    let b : Booking = record { segment = s; meter = m; hour = h; amount = a } in (
+grows (next_amount {spot} {a}) plan bs sound limits none =
+    let b : Booking = record { segment = spot.segment; meter = spot.meter; hour = spot.hour; amount = a } in (
       record { tidy = sound.tidy; agrees = next_after_push None bs b },
       ap (λ ws. plan_words plan ++ (ws ++ []))
           (booking_words_push None bs b
-          ∙ ap (λ next. booking_words None bs ++ (select_words next (spot_of b) ++ Amount a ∷ [])) (ap (λ next. comes_next next (spot_of b)) sound.agrees ∙ same_spot s m h))
+          ∙ ap (λ next. booking_words None bs ++ (select_words next (spot_of b) ++ Amount a ∷ [])) (ap (λ next. comes_next next (spot_of b)) sound.agrees ∙ same_spot spot))
           ∙ ends_booked (plan_words plan) (booking_words None bs) (Amount a),
     )
 
@@ -216,11 +216,11 @@ grows (next_amount {s} {m} {h} {a}) plan bs sound limits none =
 ends_clear : (phase : Phase) → may_end phase ≡ true → pending phase ≡ []
 ends_clear Start e = refl
 ends_clear Segments e = refl
-ends_clear (Terms s v t) e = absurd (false≢true e)
+ends_clear (Terms given) e = absurd (false≢true e)
 ends_clear Meters e = refl
 ends_clear Peaks e = refl
-ends_clear (Selected s m h) e = absurd (false≢true e)
-ends_clear (Booked s m h) e = refl
+ends_clear (Selected spot) e = absurd (false≢true e)
+ends_clear (Booked spot) e = refl
 
 abbrev Completed : Standing → List Booking → List (Option Word) → Reading → Type 0
 Completed st bs words r =

@@ -15,10 +15,12 @@ use Rattle.words.specs.declared.word.Word.{Word}
 use Rattle.words.proofs.Reading.{decoded-back, decodes}
 use Rattle.words.proofs.Spelling.{length-left_over, length-words, spelled_words, words_spelled}
 use Rattle.monthfile.specs.declared.fault.ReadFault.{ReadFault}
-use Rattle.monthfile.specs.Faults.{Told, told}
+use Rattle.monthfile.specs.declared.telling.Layer.TheVariants.{File as FILE}
+use Rattle.monthfile.specs.declared.telling.Told.{Told}
+use Rattle.monthfile.specs.Faults.{told}
 use Rattle.monthfile.specs.File.{bytes_of, file_of, file_words}
 use Rattle.monthfile.specs.Inverse.{Fileable, FileAndReading, Gave, Holdable}
-use Rattle.monthfile.specs.Judging.{FILE, beginning, Standing, Verdict, Faulty, Taken, judge}
+use Rattle.monthfile.specs.Judging.{beginning, Standing, Verdict, Faulty, Taken, judge}
 use Rattle.monthfile.specs.Reading.{Reading, reading, gone_on, preceded, AllDecoded, BlockRead, may_end, end_fault}
 use Rattle.monthfile.specs.Whole.{TellsFirst, file_fault, or_else}
 use Rattle.monthfile.proofs.Backward.{is_file}

@@ -1,5 +1,5 @@
 -- Reading the words of a file gives its plan and its bookings back. Assumes nothing.
-use Rattle.std.proofs.Common.{◌≡◌, ℕ, ◌+◌, Bool, true, false, cond, not, ◌&&◌, eqb, leb, List, [], ◌∷◌, ◌++◌, map, Some, None, Option, sym, refl, ap, ◌∙◌, subst, ⊎_elim, append_assoc, arith}
+use Rattle.std.proofs.Common.{◌≡◌, ℕ, Bool, true, false, cond, not, ◌&&◌, eqb, leb, List, [], ◌∷◌, ◌++◌, map, Some, None, Option, sym, refl, ap, ◌∙◌, subst, ⊎_elim, append_assoc, arith}
 use Rattle.std.specs.List.{flat_map, AllByRecursion}
 use Rattle.std.proofs.lemmas.List.{map-append}
 use Rattle.std.proofs.lemmas.Bool.{false≢true, and_parts, cases_Bool, eqb-true, le-leb}
@@ -10,15 +10,18 @@ use Rattle.plan.specs.Questions.{is_full}
 use Rattle.plan.specs.WellMade.{Makes, calls_of}
 use Rattle.plan.specs.declared.booking.Booking.{Booking}
 use Rattle.words.specs.Bytes.{number_at}
+use Rattle.words.specs.declared.segment_word.SegmentWord.{SegmentWord}
+use Rattle.words.specs.declared.spot.Spot.{Spot}
 use Rattle.words.specs.declared.word.Word.{Word}
 use Rattle.words.specs.declared.word.Word.TheVariants.{Period, Segment, Factor, Meter, Select, Amount, Carried}
 use Rattle.monthfile.specs.declared.brought.Brought.{Brought}
 use Rattle.monthfile.specs.declared.brought.Brought.TheVariants.{Nothing, Opening, Offtake}
 use Rattle.monthfile.specs.declared.phase.Phase.{Phase}
 use Rattle.monthfile.specs.declared.phase.Phase.TheVariants.{Start, Segments, Terms, Meters, Peaks, Selected, Booked}
-use Rattle.monthfile.specs.File.{call_words, plan_words, Spot, spot_of, one_on, comes_next, select_words, booking_words, file_words}
+use Rattle.monthfile.specs.File.{call_words, plan_words, spot_of, one_on, comes_next, select_words, booking_words, file_words}
 use Rattle.monthfile.specs.Inverse.{Gave, Holdable}
-use Rattle.monthfile.specs.Judging.{last_hour, by_plan, Standing, beginning, FILE, Faulty, Taken, judge}
+use Rattle.monthfile.specs.declared.telling.Layer.TheVariants.{File as FILE}
+use Rattle.monthfile.specs.Judging.{last_hour, by_plan, Standing, beginning, terms_call, Faulty, Taken, judge}
 use Rattle.monthfile.specs.Reading.{Reading, reading, gone_on, preceded, booking_of, may_end}
 use Rattle.monthfile.proofs.Phases.{phase_for, Tidy, tidy_nothing, in_order, turn, not_yet_full, first_period, begun_from_full, phase_begun, tidy_kept, after_period, after_segment, after_meter, after_peak}
 
@@ -58,22 +61,22 @@ module _ (plan : Contents) (tidy : Tidy plan) where
       let after : Contents = after_call plan call in
       let t = turn plan tidy segment s (in_order plan call none) in
       let waits : phase_for plan ≡ Segments = phase_begun plan t.begun ∙ ap (λ b. cond b (cond (is_empty plan.carried) Meters Peaks) Segments) (not_yet_full plan tidy segment t) in
-      let open-terms : Phase = Terms segment s.service s.tariff in
+      let given : SegmentWord = record { segment = segment; service = s.service; tariff = s.tariff } in
       let next : Phase = cond (is_full after) Meters Segments in (
         number_at (number_at place 1) 1,
-        taken (at (phase_for plan) plan) place (Segment segment s.service s.tariff) (Some (Factor segment s.factor) ∷ rest) (at open-terms plan) Nothing
-            (ap (λ p. judge (at p plan) (Segment segment s.service s.tariff)) waits)
-            ∙ taken (at open-terms plan) (number_at place 1) (Factor segment s.factor) rest (at next after) Nothing
-            (own_factor segment s.service s.tariff s.factor none)
+        taken (at (phase_for plan) plan) place (Segment given) (Some (Factor segment s.factor) ∷ rest) (at (Terms given) plan) Nothing
+            (ap (λ p. judge (at p plan) (Segment given)) waits)
+            ∙ taken (at (Terms given) plan) (number_at place 1) (Factor segment s.factor) rest (at next after) Nothing
+            (own_factor given s.factor none)
             ∙ ap (λ ph. reading (at ph after) (number_at (number_at place 1) 1) rest) (sym (after_segment plan tidy segment s none)),
       )
     where
-      own_factor : (n v t f : ℕ) → refusal_of plan (AddSegment n (record { service = v; tariff = t; factor = f })) ≡ None
-          → judge (at (Terms n v t) plan) (Factor n f)
-          ≡ Taken (at (cond (is_full (after_call plan (AddSegment n (record { service = v; tariff = t; factor = f })))) Meters Segments) (after_call plan (AddSegment n (record { service = v; tariff = t; factor = f })))) Nothing
-      own_factor n v t f none =
-          let own : not (not (eqb n n)) ≡ true = grind (arith, nat_tests) in
-          let call : PlanCall = AddSegment n (record { service = v; tariff = t; factor = f }) in
+      own_factor : (given : SegmentWord) (f : ℕ) → refusal_of plan (terms_call given f) ≡ None
+          → judge (at (Terms given) plan) (Factor given.segment f)
+          ≡ Taken (at (cond (is_full (after_call plan (terms_call given f))) Meters Segments) (after_call plan (terms_call given f))) Nothing
+      own_factor given f none =
+          let own : not (not (eqb given.segment given.segment)) ≡ true = grind (arith, nat_tests) in
+          let call : PlanCall = terms_call given f in
           let after : Standing = at (cond (is_full (after_call plan call)) Meters Segments) (after_call plan call) in
           ap (λ b. cond b (by_plan (refusal_of plan call) after Nothing) (Faulty FILE 2)) own ∙ ap (λ o. by_plan o after Nothing) none
   brings (AddMeter m) none place rest =
@@ -130,53 +133,49 @@ gave_after plan bs brought r gave = record {
 data Ready : Phase → Option Spot → Type 0 where
   after_meters : Ready Meters None
   after_peaks : Ready Peaks None
-  going_on : {s m h : ℕ} → Ready (Booked s m h) (Some (record { segment = s; meter = m; hour = h }))
+  going_on : {spot : Spot} → Ready (Booked spot) (Some spot)
 
 ready_ends : {phase : Phase} {next : Option Spot} → Ready phase next → may_end phase ≡ true
 ready_ends after_meters = refl
 ready_ends after_peaks = refl
 ready_ends going_on = refl
 
-abbrev spot_phase : Booking → Phase
-spot_phase b = Booked b.segment b.meter b.hour
-
 abbrev one_past : Booking → Phase
-one_past b = Booked b.segment b.meter (b.hour + 1)
+one_past b = Booked (one_on (spot_of b))
 
 module _ (plan : Contents) (b : Booking) (fits : Holdable b) where
   hour_fits : leb b.hour last_hour ≡ true
   hour_fits = le-leb b.hour last_hour fits.hour
 
-  amount_selected : judge (at (Selected b.segment b.meter b.hour) plan) (Amount b.amount) ≡ Taken (at (one_past b) plan) (Offtake b)
+  amount_selected : judge (at (Selected (spot_of b)) plan) (Amount b.amount) ≡ Taken (at (one_past b) plan) (Offtake b)
   amount_selected = ap (λ t. cond t (Taken (at (one_past b) plan) (Offtake b)) (Faulty FILE 3)) hour_fits
 
-  amount_next : judge (at (spot_phase b) plan) (Amount b.amount) ≡ Taken (at (one_past b) plan) (Offtake b)
+  amount_next : judge (at (Booked (spot_of b)) plan) (Amount b.amount) ≡ Taken (at (one_past b) plan) (Offtake b)
   amount_next = ap (λ t. cond t (Taken (at (one_past b) plan) (Offtake b)) (Faulty FILE 3)) hour_fits
 
   -- the booking that comes next has just its amount
-  next_is : {phase : Phase} {next : Option Spot} → Ready phase next → comes_next next (spot_of b) ≡ true → phase ≡ spot_phase b
+  next_is : {phase : Phase} {next : Option Spot} → Ready phase next → comes_next next (spot_of b) ≡ true → phase ≡ Booked (spot_of b)
   next_is after_meters e = absurd (false≢true e)
   next_is after_peaks e = absurd (false≢true e)
-  next_is (going_on {s} {m} {h}) e =
+  next_is (going_on {spot}) e =
       let first = and_parts _ _ e in
       let others = and_parts _ _ first.1 in
-      let es = eqb-true s b.segment first.0 in
-      let em = eqb-true m b.meter others.0 in
-      let eh = eqb-true h b.hour others.1 in
-      ap (λ x. Booked x m h) es ∙ ap (λ x. Booked b.segment x h) em ∙ ap (λ x. Booked b.segment b.meter x) eh
+      let segment = eqb-true spot.segment b.segment first.0 in
+      let meter = eqb-true spot.meter b.meter others.0 in
+      let hour = eqb-true spot.hour b.hour others.1 in
+      rw (← segment, ← meter, ← hour)
 
   -- any other booking has a select first
   selects : {phase : Phase} {next : Option Spot} → Ready phase next → comes_next next (spot_of b) ≡ false
-      → (brought : Brought) × (booking_of brought ≡ []) × (judge (at phase plan) (Select b.segment b.meter b.hour) ≡ Taken (at (Selected b.segment b.meter b.hour) plan) brought)
-  selects after_meters e = (Opening, refl, ap (λ t. cond t (Taken (at (Selected b.segment b.meter b.hour) plan) Opening) (Faulty FILE 3)) hour_fits)
-  selects after_peaks e = (Opening, refl, ap (λ t. cond t (Taken (at (Selected b.segment b.meter b.hour) plan) Opening) (Faulty FILE 3)) hour_fits)
-  selects (going_on {s} {m} {h}) e =
-      let spot : Spot = record { segment = s; meter = m; hour = h } in (
-        Nothing,
-        refl,
-        ap (λ t. cond (not (t && leb h last_hour)) (cond (leb b.hour last_hour) (Taken (at (Selected b.segment b.meter b.hour) plan) Nothing) (Faulty FILE 3)) (Faulty FILE 2)) e
-            ∙ ap (λ t. cond t (Taken (at (Selected b.segment b.meter b.hour) plan) Nothing) (Faulty FILE 3)) hour_fits,
-      )
+      → (brought : Brought) × (booking_of brought ≡ []) × (judge (at phase plan) (Select (spot_of b)) ≡ Taken (at (Selected (spot_of b)) plan) brought)
+  selects after_meters e = (Opening, refl, ap (λ t. cond t (Taken (at (Selected (spot_of b)) plan) Opening) (Faulty FILE 3)) hour_fits)
+  selects after_peaks e = (Opening, refl, ap (λ t. cond t (Taken (at (Selected (spot_of b)) plan) Opening) (Faulty FILE 3)) hour_fits)
+  selects (going_on {spot}) e = (
+    Nothing,
+    refl,
+    ap (λ t. cond (not (t && leb spot.hour last_hour)) (cond (leb b.hour last_hour) (Taken (at (Selected (spot_of b)) plan) Nothing) (Faulty FILE 3)) (Faulty FILE 2)) e
+        ∙ ap (λ t. cond t (Taken (at (Selected (spot_of b)) plan) Nothing) (Faulty FILE 3)) hour_fits,
+  )
 
 reads_bookings : (bs : List Booking) → AllByRecursion Holdable bs → {phase : Phase} {next : Option Spot} → Ready phase next → (plan : Contents) (place : ℕ)
     → Gave plan bs (reading (at phase plan) place (map Some (booking_words next bs)))
@@ -190,18 +189,18 @@ reads_bookings (b ∷ bs) all {phase} {next} ready plan place =
     (λ e. subst Goal (sym e)
     (subst (λ r. Gave plan (b ∷ bs) r)
     (sym (ap (λ ph. reading (at ph plan) place (amount ∷ rest)) (next_is plan b all.0 ready e)
-    ∙ taken (at (spot_phase b) plan) place (Amount b.amount) rest (at (one_past b) plan) (Offtake b) (amount_next plan b all.0)))
+    ∙ taken (at (Booked (spot_of b)) plan) place (Amount b.amount) rest (at (one_past b) plan) (Offtake b) (amount_next plan b all.0)))
     (gave_after plan bs (Offtake b) (reading (at (one_past b) plan) (number_at place 1) rest) (later (number_at place 1)))))
     (λ e.
     let first = selects plan b all.0 ready e in
-    let selected : Standing = at (Selected b.segment b.meter b.hour) plan in
+    let selected : Standing = at (Selected (spot_of b)) plan in
     let booked : Gave plan (b ∷ bs) (reading selected (number_at place 1) (amount ∷ rest)) =
     subst (λ r. Gave plan (b ∷ bs) r)
     (sym (taken selected (number_at place 1) (Amount b.amount) rest (at (one_past b) plan) (Offtake b) (amount_selected plan b all.0)))
     (gave_after plan bs (Offtake b) (reading (at (one_past b) plan) (number_at (number_at place 1) 1) rest) (later (number_at (number_at place 1) 1))) in
     subst Goal (sym e)
     (subst (λ r. Gave plan (b ∷ bs) r)
-    (sym (taken (at phase plan) place (Select b.segment b.meter b.hour) (amount ∷ rest) selected first.0 first.2))
+    (sym (taken (at phase plan) place (Select (spot_of b)) (amount ∷ rest) selected first.0 first.2))
     (subst (λ xs. Gave plan (xs ++ b ∷ bs) (preceded first.0 (reading selected (number_at place 1) (amount ∷ rest)))) first.1
     (gave_after plan (b ∷ bs) first.0 (reading selected (number_at place 1) (amount ∷ rest)) booked))))
     (cases_Bool (comes_next next (spot_of b)))

@@ -3,7 +3,7 @@ use Rattle.std.proofs.Common.{◌≡◌, ℕ, ◌^◌, ◌<◌, ◌≤◌, Bool,
 use Rattle.std.specs.List.{AllByRecursion}
 use Rattle.std.proofs.ByRecursion.{All-append}
 use Rattle.std.proofs.lemmas.Bool.{false≢true, leb-true}
-use Rattle.plan.specs.Calls.{AddSegment, after_call}
+use Rattle.plan.specs.Calls.{after_call}
 use Rattle.plan.specs.Contents.{Contents}
 use Rattle.plan.specs.Questions.{is_full}
 use Rattle.words.specs.Bytes.{number_at}
@@ -12,7 +12,7 @@ use Rattle.words.specs.declared.word.Word.{Word}
 use Rattle.monthfile.specs.declared.phase.Phase.{Phase}
 use Rattle.monthfile.specs.declared.phase.Phase.TheVariants.{Start, Segments, Terms, Meters, Peaks, Selected, Booked}
 use Rattle.monthfile.specs.Inverse.{Holdable}
-use Rattle.monthfile.specs.Judging.{last_hour, within_limits, call_of, plan_after, phase_after, brought_by, Standing, Verdict, Faulty, Taken, judge}
+use Rattle.monthfile.specs.Judging.{last_hour, within_limits, call_of, plan_after, phase_after, brought_by, Standing, terms_call, Verdict, Faulty, Taken, judge}
 use Rattle.monthfile.specs.Reading.{Reading, reading, gone_on, booking_of, may_end, AllDecoded}
 use Rattle.monthfile.proofs.Allowed.{Allowed, allowed, period, segment, factor, meter, first_peak, next_peak, select_after_meters, select_after_peaks, select_anew, selected_amount, next_amount}
 use Rattle.monthfile.proofs.Backward.{passed}
@@ -21,11 +21,11 @@ use Rattle.monthfile.proofs.Backward.{passed}
 abbrev Ready : Phase → Contents → Type 0
 Ready Start plan = Unit {0}
 Ready Segments plan = Unit {0}
-Ready (Terms s v t) plan = Unit {0}
+Ready (Terms given) plan = Unit {0}
 Ready Meters plan = is_full plan ≡ true
 Ready Peaks plan = is_full plan ≡ true
-Ready (Selected s m h) plan = (is_full plan ≡ true) × (s < 2 ^ 2) × (m < 2 ^ 6) × (h ≤ last_hour)
-Ready (Booked s m h) plan = (is_full plan ≡ true) × (s < 2 ^ 2) × (m < 2 ^ 6)
+Ready (Selected spot) plan = (is_full plan ≡ true) × (spot.segment < 2 ^ 2) × (spot.meter < 2 ^ 6) × (spot.hour ≤ last_hour)
+Ready (Booked spot) plan = (is_full plan ≡ true) × (spot.segment < 2 ^ 2) × (spot.meter < 2 ^ 6)
 
 after_factor : (full : Bool) (plan : Contents) → is_full plan ≡ full → Ready (cond full Meters Segments) plan
 after_factor true plan e = e
@@ -40,19 +40,19 @@ stays : {phase : Phase} {word : Word} → Allowed phase word → (plan : Content
     → Goal phase plan word
 stays period plan ready fit limits = (tt, tt)
 stays segment plan ready fit limits = (tt, tt)
-stays (factor {s} {v} {t} {u} {f} e) plan ready fit limits =
-    let after : Contents = after_call plan (AddSegment s (record { service = v; tariff = t; factor = f })) in
+stays (factor {given} {u} {f} e) plan ready fit limits =
+    let after : Contents = after_call plan (terms_call given f) in
     (after_factor (is_full after) after refl, tt)
 stays meter plan ready fit limits = (ready, tt)
 stays first_peak plan ready fit limits = (ready, tt)
 stays next_peak plan ready fit limits = (ready, tt)
-stays (select_after_meters {s} {m} {h}) plan ready fit limits = ((ready, fit.0, fit.1, leb-true h last_hour limits), tt)
-stays (select_after_peaks {s} {m} {h}) plan ready fit limits = ((ready, fit.0, fit.1, leb-true h last_hour limits), tt)
-stays (select_anew {s} {m} {h} {u} {n} {k} other) plan ready fit limits = ((ready.0, fit.0, fit.1, leb-true k last_hour limits), tt)
-stays (selected_amount {s} {m} {h} {a}) plan ready fit limits =
+stays (select_after_meters {spot}) plan ready fit limits = ((ready, fit.0, fit.1, leb-true spot.hour last_hour limits), tt)
+stays (select_after_peaks {spot}) plan ready fit limits = ((ready, fit.0, fit.1, leb-true spot.hour last_hour limits), tt)
+stays (select_anew {next} {spot} other) plan ready fit limits = ((ready.0, fit.0, fit.1, leb-true spot.hour last_hour limits), tt)
+stays (selected_amount {spot} {a}) plan ready fit limits =
     ((ready.0, ready.1, ready.2), (record { segment = ready.1; meter = ready.2; hour = ready.3; amount = fit }, tt))
-stays (next_amount {s} {m} {h} {a}) plan ready fit limits =
-    ((ready.0, ready.1, ready.2), (record { segment = ready.1; meter = ready.2; hour = leb-true h last_hour limits; amount = fit }, tt))
+stays (next_amount {spot} {a}) plan ready fit limits =
+    ((ready.0, ready.1, ready.2), (record { segment = ready.1; meter = ready.2; hour = leb-true spot.hour last_hour limits; amount = fit }, tt))
 
 abbrev Held : Reading → Type 0
 Held r = Ready r.standing.phase r.standing.plan × AllByRecursion Holdable r.bookings
@@ -81,8 +81,8 @@ held (n ∷ bits) (Some word ∷ words) decoded st place ready =
 pub full_at_end : (phase : Phase) (plan : Contents) → may_end phase ≡ true → Ready phase plan → is_full plan ≡ true
 full_at_end Start plan e ready = absurd (false≢true e)
 full_at_end Segments plan e ready = absurd (false≢true e)
-full_at_end (Terms s v t) plan e ready = absurd (false≢true e)
+full_at_end (Terms given) plan e ready = absurd (false≢true e)
 full_at_end Meters plan e ready = ready
 full_at_end Peaks plan e ready = ready
-full_at_end (Selected s m h) plan e ready = absurd (false≢true e)
-full_at_end (Booked s m h) plan e ready = ready.0
+full_at_end (Selected spot) plan e ready = absurd (false≢true e)
+full_at_end (Booked spot) plan e ready = ready.0

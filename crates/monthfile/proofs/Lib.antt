@@ -2,6 +2,7 @@ pub mod Allowed
 pub mod Backward
 pub mod Entire
 pub mod Factor
+pub mod Failing
 pub mod Fitting
 pub mod Forward
 pub mod Held

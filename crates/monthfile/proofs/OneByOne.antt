@@ -1,13 +1,18 @@
 -- Reading word by word. Assumes nothing.
-use Rattle.std.proofs.Common.{◌≡◌, ℕ, ◌+◌, ◌≤◌, true, false, List, [], ◌∷◌, ◌++◌, length, Some, None, Ok, Err, Option, sym, refl, ap, ◌∙◌, subst, append_assoc, arith, length-append}
+use Rattle.std.proofs.Common.{◌≡◌, ℕ, ◌+◌, ◌≤◌, List, [], ◌∷◌, ◌++◌, length, Some, None, Ok, Err, Option, sym, refl, ap, ◌∙◌, subst, append_assoc, arith, length-append}
+use Rattle.std.proofs.lemmas.Bool.{false≢true}
 use Rattle.std.proofs.lemmas.List.{append-nil}
 use Rattle.plan.specs.declared.booking.Booking.{Booking}
-use Rattle.words.specs.Bytes.{last_number, number_at}
+use Rattle.words.specs.Bytes.{last_number, number_at, words_of}
+use Rattle.words.specs.Windows.{Advanced}
+use Rattle.words.specs.declared.window.Window.{Window}
+use Rattle.words.proofs.Numbering.{shown}
 use Rattle.words.specs.declared.word.Word.{Word}
 use Rattle.monthfile.specs.declared.brought.Brought.{Brought}
 use Rattle.monthfile.specs.declared.brought.Brought.TheVariants.{Nothing, Opening, Offtake}
 use Rattle.monthfile.specs.declared.fault.ReadFault.{ReadFault}
-use Rattle.monthfile.specs.Faults.{Told, told, blamed, Stepped}
+use Rattle.monthfile.specs.declared.telling.Told.{Told}
+use Rattle.monthfile.specs.Faults.{told, blamed, Stepped}
 use Rattle.monthfile.specs.Judging.{Standing, Verdict, Faulty, Taken, judge}
 use Rattle.monthfile.specs.Reading.{Reading, reading, gone_on, preceded, ended, booking_of, followed, BlockByBlock, ReadTo, BlockRead, AllDecoded}
 
@@ -40,9 +45,6 @@ block_by_block before place (Some word ∷ first) second small clean =
         (sym (append_assoc (booking_of brought) r.bookings (s (number_at (number_at place 1) (length first))).bookings))
         ∙ ap (λ n. followed (preceded brought r) (s n)) k
 
-pub ok≢err : false ≡ true → ⊥
-ok≢err e = let z : ◌≡◌ {A = ℕ} 0 1 = cc in omega arith
-
 -- stopped for want of memory before the first word
 pub nothing_read : (before : Standing) (place : ℕ) (bits : List ℕ) (bs : List Booking) (fault : ReadFault) → told fault ≡ None
     → BlockRead before place bits bs (Err fault) bs before
@@ -53,7 +55,7 @@ nothing_read before place bits bs fault none = record {
   words = [];
   decoded = tt;
   left = record { faulty = sym none; booked = sym (append-nil bs); stands = refl };
-  whole = λ e. absurd (ok≢err e);
+  whole = λ e. absurd (false≢true e);
 }
 
 -- a word that is not taken
@@ -66,7 +68,7 @@ faulty_read before place bits bs fault after (None, decoded, (tells, same)) = re
   words = None ∷ [];
   decoded = (decoded, tt);
   left = record { faulty = sym tells; booked = sym (append-nil bs); stands = same };
-  whole = λ e. absurd (ok≢err e);
+  whole = λ e. absurd (false≢true e);
 }
 faulty_read before place bits bs fault after (Some word, decoded, (tells, same)) = go (judge before word) refl
   where
@@ -85,7 +87,7 @@ faulty_read before place bits bs fault after (Some word, decoded, (tells, same))
             booked = sym (append-nil bs) ∙ ap (λ x. bs ++ x.bookings) (sym r);
             stands = same ∙ ap (λ x. x.standing) (sym r);
           };
-      whole = λ x. absurd (ok≢err x);
+      whole = λ x. absurd (false≢true x);
     }
     go (Taken st brought) e =
         subst (λ st. BlockRead before place (bits ∷ []) bs (Err fault) bs st) (sym same)
@@ -201,7 +203,7 @@ module _ (before : Standing) (place : ℕ) (all : List ℕ) (earlier : List Book
     words = so_far.words ++ one.words;
     decoded = decoded-append so_far.front one.front so_far.words one.words so_far.decoded one.decoded;
     left = read_on before place earlier so_far.words one.words number (told fault) bookings later after end small so_far.counted so_far.left one.left;
-    whole = λ e. absurd (ok≢err e);
+    whole = λ e. absurd (false≢true e);
   }
 
   -- read to the end
@@ -216,3 +218,23 @@ module _ (before : Standing) (place : ℕ) (all : List ℕ) (earlier : List Book
     left = so_far.left;
     whole = λ _. refl;
   }
+
+  -- one word more, as a window shows it
+  pub shown_more : (window left : Window) (number bits : ℕ) (bookings later : List Booking) (after end : Standing) → Advanced window (number, bits) left
+      → SoFar before place all earlier (words_of window.rest.now) window.number bookings after → BlockRead after number (bits ∷ []) bookings (Ok tt) later end
+      → SoFar before place all earlier (words_of left.rest.now) left.number later end
+  shown_more window left number bits bookings later after end step so_far one =
+      let next = shown window.number left.number (words_of window.rest.now) (words_of left.rest.now) number bits step.shows in
+      one_more bits (words_of left.rest.now) window.number left.number bookings later after end
+      (subst (λ ws. SoFar before place all earlier ws window.number bookings after) next.0 so_far)
+      (subst (λ n. BlockRead after n (bits ∷ []) bookings (Ok tt) later end) next.1 one) step.counts
+
+  -- stopped at the word that a window shows
+  pub shown_stopped : (window left : Window) (number bits : ℕ) (bookings later : List Booking) (after end : Standing) (fault : ReadFault) → Advanced window (number, bits) left
+      → SoFar before place all earlier (words_of window.rest.now) window.number bookings after → BlockRead after number (bits ∷ []) bookings (Err fault) later end
+      → BlockRead before place all earlier (Err fault) later end
+  shown_stopped window left number bits bookings later after end fault step so_far one =
+      let next = shown window.number left.number (words_of window.rest.now) (words_of left.rest.now) number bits step.shows in
+      stopped bits (words_of left.rest.now) window.number bookings later after end fault
+      (subst (λ ws. SoFar before place all earlier ws window.number bookings after) next.0 so_far)
+      (subst (λ n. BlockRead after n (bits ∷ []) bookings (Err fault) later end) next.1 one)

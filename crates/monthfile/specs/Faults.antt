@@ -13,7 +13,9 @@ use Rattle.monthfile.specs.declared.fault.FileFault.TheVariants.{Malformed, OutO
 use Rattle.monthfile.specs.declared.fault.ReadFault.{ReadFault}
 use Rattle.monthfile.specs.declared.fault.ReadFault.TheVariants.{File, Plan, Memory}
 use Rattle.monthfile.specs.declared.phase.Phase.{Phase}
-use Rattle.monthfile.specs.Judging.{Layer, FILE, PLAN, Standing, Verdict, Faulty, Taken, judge}
+use Rattle.monthfile.specs.declared.telling.Layer.TheVariants.{File as FILE, Plan as PLAN}
+use Rattle.monthfile.specs.declared.telling.Told.{Told}
+use Rattle.monthfile.specs.Judging.{Standing, Verdict, Faulty, Taken, judge}
 
 -- the number of each fault of the layer FILE
 abbrev pub number_of : FileFault → ℕ
@@ -21,12 +23,6 @@ number_of Malformed = 1
 number_of OutOfOrder = 2
 number_of OutsideLimits = 3
 number_of CutShort = 11
-
--- what a fault tells
-pub record Told : Type 0 where
-  pub layer : Layer
-  pub number : ℕ
-  pub place : ℕ
 
 -- Layer, number and place of each fault; want of memory tells none.
 abbrev pub told : ReadFault → Option Told

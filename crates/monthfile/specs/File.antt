@@ -7,25 +7,20 @@ use Rattle.plan.specs.WellMade.{calls_of}
 use Rattle.plan.specs.declared.booking.Booking.{Booking}
 use Rattle.words.specs.Bytes.{spelled}
 use Rattle.words.specs.Layout.{encoded}
+use Rattle.words.specs.declared.spot.Spot.{Spot}
 use Rattle.words.specs.declared.word.Word.{Word}
 use Rattle.words.specs.declared.word.Word.TheVariants.{Period, Segment, Factor, Meter, Select, Amount, Carried}
 
 -- the words of one plan call: a segment has two
 abbrev pub call_words : PlanCall → List Word
 call_words (SetPeriod p) = Period p.year p.month p.hours ∷ []
-call_words (AddSegment segment s) = Segment segment s.service s.tariff ∷ Factor segment s.factor ∷ []
+call_words (AddSegment segment s) = Segment (record { segment = segment; service = s.service; tariff = s.tariff }) ∷ Factor segment s.factor ∷ []
 call_words (AddMeter m) = Meter m.segment m.user m.station m.number ∷ []
 call_words (AddCarried p) = Carried p.meter p.amount ∷ []
 
 -- the words of a plan: its period, its segments, its meters, its carried peaks
 abbrev pub plan_words : Contents → List Word
 plan_words plan = flat_map call_words (calls_of plan)
-
--- a meter's hour
-pub record Spot : Type 0 where
-  pub segment : ℕ
-  pub meter : ℕ
-  pub hour : ℕ
 
 -- the meter's hour that a booking books
 abbrev pub spot_of : Booking → Spot
@@ -46,7 +41,7 @@ comes_next (Some next) spot = is_same_spot next spot
 -- a select, where the booking is not the one that comes next
 abbrev pub select_words : Bool → Spot → List Word
 select_words true spot = []
-select_words false spot = Select spot.segment spot.meter spot.hour ∷ []
+select_words false spot = Select spot ∷ []
 
 -- the words of bookings, where the next amount would book this hour
 abbrev pub booking_words : Option Spot → List Booking → List Word

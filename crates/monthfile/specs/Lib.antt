@@ -1,7 +1,6 @@
 pub mod File
 pub mod Judging
 pub mod Faults
-pub mod Telling
 pub mod Reading
 pub mod Inverse
 pub mod View

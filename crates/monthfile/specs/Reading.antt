@@ -9,8 +9,10 @@ use Rattle.monthfile.specs.declared.brought.Brought.TheVariants.{Nothing, Openin
 use Rattle.monthfile.specs.declared.fault.ReadFault.{ReadFault}
 use Rattle.monthfile.specs.declared.phase.Phase.{Phase}
 use Rattle.monthfile.specs.declared.phase.Phase.TheVariants.{Start, Segments, Terms, Meters, Peaks, Selected, Booked}
-use Rattle.monthfile.specs.Faults.{Told, told}
-use Rattle.monthfile.specs.Judging.{FILE, Standing, Verdict, Faulty, Taken, judge}
+use Rattle.monthfile.specs.declared.telling.Layer.TheVariants.{File as FILE}
+use Rattle.monthfile.specs.declared.telling.Told.{Told}
+use Rattle.monthfile.specs.Faults.{told}
+use Rattle.monthfile.specs.Judging.{Standing, Verdict, Faulty, Taken, judge}
 
 -- what a reading gives: the bookings before the first fault, that fault, and where the reader stands
 pub record Reading : Type 0 where
@@ -57,11 +59,11 @@ AllDecoded (bits ∷ more) (word ∷ words) = Decoded bits word × AllDecoded mo
 abbrev pub may_end : Phase → Bool
 may_end Start = false
 may_end Segments = false
-may_end (Terms segment service tariff) = false
+may_end (Terms given) = false
 may_end Meters = true
 may_end Peaks = true
-may_end (Selected segment meter hour) = false
-may_end (Booked segment meter hour) = true
+may_end (Selected spot) = false
+may_end (Booked spot) = true
 
 -- the fault of a file's end, if it is one: after a select, inside a word or before the last factor
 abbrev pub end_fault : Standing → ℕ → ℕ → Option Told

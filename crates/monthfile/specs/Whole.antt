@@ -3,7 +3,8 @@ use Rattle.std.specs.Prelude.{◌≡◌, ℕ, true, List, length, is_some, Some,
 use Rattle.words.specs.Bytes.{words_of, left_over}
 use Rattle.words.specs.declared.word.Word.{Word}
 use Rattle.monthfile.specs.declared.fault.ReadFault.{ReadFault}
-use Rattle.monthfile.specs.Faults.{Told, told}
+use Rattle.monthfile.specs.declared.telling.Told.{Told}
+use Rattle.monthfile.specs.Faults.{told}
 use Rattle.monthfile.specs.Judging.{beginning}
 use Rattle.monthfile.specs.Reading.{AllDecoded, end_fault, reading}
 

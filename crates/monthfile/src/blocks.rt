@@ -41,8 +41,7 @@ impl Reader {
         ensures read { BlockRead (standing_of self.old) first (words_of block.now) bookings.old.items result bookings.new.items (standing_of self.new) }
         ensures blocks { BlockByBlock }
     {
-        let mut window = Window::new(block, first);
-        while let Some((place, bits)) = window.next() {
+        for (place, bits) in Window::new(block, first) {
             self.read_word(place, bits, bookings)?;
         }
         Ok(())
@@ -53,7 +52,7 @@ impl Reader {
         ensures { MatchResult result (λ _. end_fault (standing_of self.now) words left_over ≡ None) (λ fault. told fault ≡ end_fault (standing_of self.now) words left_over) }
     {
         match self.phase {
-            Phase::Meters | Phase::Peaks | Phase::Booked { .. } if left_over == 0 => Ok(()),
+            Phase::Meters | Phase::Peaks | Phase::Booked(_) if left_over == 0 => Ok(()),
             _ => Err(refused(FileFault::CutShort, words)),
         }
     }

@@ -1,7 +1,7 @@
-// What a word that was taken brings.
+// What a word that was taken brings: one of three cases, so an Option round two of them would be nested.
 use plan::Booking;
 
-#[derive(Clone, Copy)]
+#[derive(Clone, Copy, PartialEq, Eq, Debug)]
 pub enum Brought {
     Nothing,
     // The first select: the plan is complete, and the month may open.

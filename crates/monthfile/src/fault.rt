@@ -6,16 +6,16 @@ ghost use Rattle.monthfile.specs.declared.fault.ReadFault.TheVariants.{File, Pla
 use plan::PlanFault;
 use std::alloc::AllocError;
 
-#[derive(Clone, Copy)]
+#[derive(Clone, Copy, PartialEq, Eq, Debug)]
 pub enum FileFault {
     // an unknown kind, or a spare bit set
-    Malformed,
+    Malformed = 1,
     // a word that may not stand here
-    OutOfOrder,
+    OutOfOrder = 2,
     // a value outside the file's limits
-    OutsideLimits,
+    OutsideLimits = 3,
     // the file ends too early
-    CutShort,
+    CutShort = 11,
 }
 
 impl FileFault {
@@ -23,24 +23,19 @@ impl FileFault {
     pub fn number(self) -> u8
         ensures { result ≡ number_of self }
     {
-        match self {
-            FileFault::Malformed => 1,
-            FileFault::OutOfOrder => 2,
-            FileFault::OutsideLimits => 3,
-            FileFault::CutShort => 11,
-        }
+        self as u8
     }
 }
 
 // A fault with the number of the word, counted from 0, or after the end the count of whole words.
-#[derive(Clone, Copy)]
+#[derive(Clone, Copy, PartialEq, Eq, Debug)]
 pub struct Placed<F> {
     pub fault: F,
     pub place: u64,
 }
 
 // A fault by the layer that found it.
-#[derive(Clone, Copy)]
+#[derive(Clone, Copy, PartialEq, Eq, Debug)]
 pub enum ReadFault {
     File(Placed<FileFault>),
     Plan(Placed<PlanFault>),
@@ -76,8 +71,5 @@ impl From<AllocError> for ReadFault {
 pub fn at_place<T, F>(answer: Result<T, F>, place: u64) -> Result<T, Placed<F>>
     ensures { MatchResult result (λ value. answer ≡ Ok value) (λ placed. (answer ≡ Err placed.fault) × (placed.place ≡ place)) }
 {
-    match answer {
-        Ok(value) => Ok(value),
-        Err(fault) => Err(Placed { fault, place }),
-    }
+    answer.map_err(|fault| Placed { fault, place })
 }

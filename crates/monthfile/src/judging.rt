@@ -1,12 +1,14 @@
 // Judges one word by the reader's phase and the word's kind together.
-ghost use Rattle.std.specs.Prelude.{◌≡◌, ◌+◌, ◌<◌, ◌≤◌, if◌then◌else◌, Some, MatchResult};
-ghost use Rattle.plan.specs.Calls.{SetPeriod, AddSegment, AddMeter, AddCarried};
+ghost use Rattle.std.specs.Prelude.{◌≡◌, ◌<◌, ◌≤◌, if◌then◌else◌, Some, MatchResult};
+ghost use Rattle.plan.specs.Calls.{SetPeriod, AddMeter, AddCarried};
 ghost use Rattle.plan.specs.Contents.{Contents, nothing};
 ghost use Rattle.plan.specs.Questions.{is_full};
 ghost use Rattle.plan.specs.OfPlan.{contents};
 ghost use Rattle.monthfile.specs.Faults.{Judged, JudgedByPlan, Stepped, number_of, told};
-ghost use Rattle.monthfile.specs.Judging.{FILE, beginning, last_hour};
-ghost use Rattle.monthfile.specs.declared.brought.Brought.TheVariants.{Offtake};
+ghost use Rattle.words.specs.declared.word.Word.TheVariants.{Select};
+ghost use Rattle.monthfile.specs.File.{one_on};
+ghost use Rattle.monthfile.specs.declared.telling.Layer.TheVariants.{File as FILE};
+ghost use Rattle.monthfile.specs.Judging.{beginning, last_hour, offtake, redundant, terms_call};
 ghost use Rattle.monthfile.specs.View.{standing_of};
 ghost use Rattle.monthfile.specs.declared.phase.Phase.TheVariants.{Segments, Meters, Peaks, Selected, Booked};
 
@@ -14,10 +16,10 @@ use crate::brought::Brought;
 use crate::fault::{FileFault, Placed, ReadFault, at_place};
 use crate::phase::Phase;
 use crate::reader::Reader;
-use plan::{Booking, Plan};
+use plan::{Booking, CarriedPeak, Meter, Plan};
 use std::alloc::Global;
 use std::mem;
-use words::Word;
+use words::{SegmentWord, Spot, Word};
 
 // The last hour of the longest month.
 pub const LAST_HOUR: u32 = 744;
@@ -54,98 +56,51 @@ impl Reader {
     fn judged(&mut self, place: u64, word: Word) -> Result<Brought, ReadFault>
         ensures { Judged (standing_of self.old) place word result (standing_of self.new) }
     {
-        match (self.phase, word) {
-            (Phase::Start, Word::Period { year, month, hours }) => {
+        match (word, self.phase) {
+            (Word::Period { year, month, hours }, Phase::Start) => {
                 self.take_period(place, year, month, hours)
             }
-            (
-                Phase::Segments,
-                Word::Segment {
-                    segment,
-                    service,
-                    tariff,
-                },
-            ) => {
-                self.phase = Phase::Terms {
-                    segment,
-                    service,
-                    tariff,
-                };
+            (Word::Segment(given), Phase::Segments) => {
+                self.phase = Phase::Terms(given);
                 Ok(Brought::Nothing)
             }
+            (Word::Factor { segment, factor }, Phase::Terms(given)) if given.segment == segment => {
+                self.take_segment(place, given, factor)
+            }
             (
-                Phase::Terms {
-                    segment: named,
-                    service,
-                    tariff,
-                },
-                Word::Factor { segment, factor },
-            ) if named == segment => { self.take_segment(place, named, service, tariff, factor) }
-            (
-                Phase::Meters,
                 Word::Meter {
                     segment,
                     user,
                     station,
                     meter,
                 },
-            ) => { self.take_meter(place, segment, meter, user, station) }
-            (Phase::Meters, Word::Carried { meter, amount }) => {
-                self.take_peak(place, meter, amount)
-            }
-            (Phase::Peaks, Word::Carried { meter, amount }) => {
-                self.take_peak(place, meter, amount)
-            }
-            (
                 Phase::Meters,
-                Word::Select {
+            ) => {
+                let assigned = Meter {
                     segment,
-                    meter,
-                    hour,
-                },
-            ) => { self.select(place, segment, meter, hour, Brought::Opening) }
-            (
-                Phase::Peaks,
-                Word::Select {
-                    segment,
-                    meter,
-                    hour,
-                },
-            ) => { self.select(place, segment, meter, hour, Brought::Opening) }
-            (
-                Phase::Booked {
-                    segment: s,
-                    meter: m,
-                    hour: h,
-                },
-                Word::Select {
-                    segment,
-                    meter,
-                    hour,
-                },
-            ) if s != segment || m != meter || h != hour || h > LAST_HOUR => {
-                self.select(place, segment, meter, hour, Brought::Nothing)
+                    number: meter,
+                    user,
+                    station,
+                };
+                self.take_meter(place, assigned)
             }
-            (
-                Phase::Selected {
-                    segment,
-                    meter,
-                    hour,
-                },
-                Word::Amount { amount },
-            ) => { self.book(place, segment, meter, hour, amount) }
-            (
-                Phase::Booked {
-                    segment,
-                    meter,
-                    hour,
-                },
-                Word::Amount { amount },
-            ) => { self.book(place, segment, meter, hour, amount) }
+            (Word::Carried { meter, amount }, Phase::Meters | Phase::Peaks) => {
+                self.take_peak(place, CarriedPeak { meter, amount })
+            }
+            (Word::Select(spot), Phase::Meters | Phase::Peaks) => {
+                self.select(place, spot, Brought::Opening)
+            }
+            (Word::Select(spot), Phase::Booked(next)) if !is_redundant(next, spot) => {
+                self.select(place, spot, Brought::Nothing)
+            }
+            (Word::Amount { amount }, Phase::Selected(spot) | Phase::Booked(spot)) => {
+                self.book(place, spot, amount)
+            }
             _ => Err(refused(FileFault::OutOfOrder, place)),
         }
     }
 
+    // By its numbers, as the plan takes them.
     fn take_period(
         &mut self,
         place: u64,
@@ -164,15 +119,14 @@ impl Reader {
     fn take_segment(
         &mut self,
         place: u64,
-        segment: u32,
-        service: u32,
-        tariff: u32,
+        given: SegmentWord,
         factor: u32,
     ) -> Result<Brought, ReadFault>
-        ensures { JudgedByPlan (standing_of self.old) place (AddSegment segment (record { service = service; tariff = tariff; factor = factor })) (λ plan. (if is_full plan then Meters else Segments)) result (standing_of self.new) }
+        ensures { JudgedByPlan (standing_of self.old) place (terms_call given factor) (λ plan. (if is_full plan then Meters else Segments)) result (standing_of self.new) }
     {
         at_place(
-            self.plan.add_segment(segment, service, tariff, factor),
+            self.plan
+                .add_segment(given.segment, given.service, given.tariff, factor),
             place,
         )?;
         self.phase = if self.plan.is_full() {
@@ -183,76 +137,59 @@ impl Reader {
         Ok(Brought::Nothing)
     }
 
-    fn take_meter(
-        &mut self,
-        place: u64,
-        segment: u32,
-        number: u32,
-        user: u32,
-        station: u32,
-    ) -> Result<Brought, ReadFault>
-        ensures { JudgedByPlan (standing_of self.old) place (AddMeter (record { segment = segment; number = number; user = user; station = station })) (λ _. Meters) result (standing_of self.new) }
+    // The calls on the plan stand apart: each is one of the plan's own, and what they share is the place.
+    fn take_meter(&mut self, place: u64, meter: Meter) -> Result<Brought, ReadFault>
+        ensures { JudgedByPlan (standing_of self.old) place (AddMeter meter) (λ _. Meters) result (standing_of self.new) }
     {
-        at_place(self.plan.add_meter(segment, number, user, station), place)?;
+        at_place(self.plan.add_meter(meter), place)?;
         self.phase = Phase::Meters;
         Ok(Brought::Nothing)
     }
 
-    fn take_peak(&mut self, place: u64, meter: u32, amount: u32) -> Result<Brought, ReadFault>
-        ensures { JudgedByPlan (standing_of self.old) place (AddCarried (record { meter = meter; amount = amount })) (λ _. Peaks) result (standing_of self.new) }
+    fn take_peak(&mut self, place: u64, peak: CarriedPeak) -> Result<Brought, ReadFault>
+        ensures { JudgedByPlan (standing_of self.old) place (AddCarried peak) (λ _. Peaks) result (standing_of self.new) }
     {
-        at_place(self.plan.add_carried(meter, amount), place)?;
+        at_place(self.plan.add_carried(peak), place)?;
         self.phase = Phase::Peaks;
         Ok(Brought::Nothing)
     }
 
-    fn select(
-        &mut self,
-        place: u64,
-        segment: u32,
-        meter: u32,
-        hour: u32,
-        brought: Brought,
-    ) -> Result<Brought, ReadFault>
-        ensures { MatchResult result (λ b. (hour ≤ last_hour) × (b ≡ brought) × (standing_of self.new ≡ record { phase = Selected segment meter hour; plan = contents self.old.plan })) (λ fault. (last_hour < hour) × (told fault ≡ Some (record { layer = FILE; number = 3; place = place })) × (standing_of self.new ≡ standing_of self.old)) }
+    // A select and an amount share the limit of the hour alone.
+    fn select(&mut self, place: u64, spot: Spot, brought: Brought) -> Result<Brought, ReadFault>
+        ensures { MatchResult result (λ b. (spot.hour ≤ last_hour) × (b ≡ brought) × (standing_of self.new ≡ record { phase = Selected spot; plan = contents self.old.plan })) (λ fault. (last_hour < spot.hour) × (told fault ≡ Some (record { layer = FILE; number = 3; place = place })) × (standing_of self.new ≡ standing_of self.old)) }
     {
-        if hour > LAST_HOUR {
+        if spot.hour > LAST_HOUR {
             return Err(refused(FileFault::OutsideLimits, place));
         }
-        self.phase = Phase::Selected {
-            segment,
-            meter,
-            hour,
-        };
+        self.phase = Phase::Selected(spot);
         Ok(brought)
     }
 
     // An amount books the selected hour and moves the selection one hour on.
-    fn book(
-        &mut self,
-        place: u64,
-        segment: u32,
-        meter: u32,
-        hour: u32,
-        amount: u32,
-    ) -> Result<Brought, ReadFault>
-        ensures { MatchResult result (λ b. (hour ≤ last_hour) × (b ≡ Offtake (record { segment = segment; meter = meter; hour = hour; amount = amount })) × (standing_of self.new ≡ record { phase = Booked segment meter (hour + 1); plan = contents self.old.plan })) (λ fault. (last_hour < hour) × (told fault ≡ Some (record { layer = FILE; number = 3; place = place })) × (standing_of self.new ≡ standing_of self.old)) }
+    fn book(&mut self, place: u64, spot: Spot, amount: u32) -> Result<Brought, ReadFault>
+        ensures { MatchResult result (λ b. (spot.hour ≤ last_hour) × (b ≡ offtake (Some spot) amount) × (standing_of self.new ≡ record { phase = Booked (one_on spot); plan = contents self.old.plan })) (λ fault. (last_hour < spot.hour) × (told fault ≡ Some (record { layer = FILE; number = 3; place = place })) × (standing_of self.new ≡ standing_of self.old)) }
     {
-        if hour > LAST_HOUR {
+        if spot.hour > LAST_HOUR {
             return Err(refused(FileFault::OutsideLimits, place));
         }
-        self.phase = Phase::Booked {
-            segment,
-            meter,
-            hour: hour + 1,
-        };
+        self.phase = Phase::Booked(Spot {
+            hour: spot.hour + 1,
+            ..spot
+        });
         Ok(Brought::Offtake(Booking {
-            segment,
-            meter,
-            hour,
+            segment: spot.segment,
+            meter: spot.meter,
+            hour: spot.hour,
             amount,
         }))
     }
+}
+
+// Whether a select names the hour that the next amount would book anyway; past the last hour an amount books none.
+fn is_redundant(next: Spot, spot: Spot) -> bool
+    ensures { result ≡ redundant next (Select spot) }
+{
+    next == spot && next.hour <= LAST_HOUR
 }
 
 pub(crate) fn refused(fault: FileFault, place: u64) -> ReadFault

@@ -1,28 +1,17 @@
 // Where the reader of a month file stands.
+use words::{SegmentWord, Spot};
 
-#[derive(Clone, Copy)]
+#[derive(Clone, Copy, PartialEq, Eq, Debug)]
 pub enum Phase {
     Start,
     // After the period, and between two segments.
     Segments,
     // After a segment word: its factor has to follow.
-    Terms {
-        segment: u32,
-        service: u32,
-        tariff: u32,
-    },
+    Terms(SegmentWord),
     Meters,
     Peaks,
     // After a select: its amount has to follow.
-    Selected {
-        segment: u32,
-        meter: u32,
-        hour: u32,
-    },
+    Selected(Spot),
     // After an amount: the hour is the one that the next amount books.
-    Booked {
-        segment: u32,
-        meter: u32,
-        hour: u32,
-    },
+    Booked(Spot),
 }

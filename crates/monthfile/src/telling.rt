@@ -1,18 +1,18 @@
 // What a fault tells: the layer that found it, its number, and its place in the file.
 ghost use Rattle.std.specs.Prelude.{◌≡◌};
-ghost use Rattle.monthfile.specs.Telling.{told_of};
+ghost use Rattle.monthfile.specs.Faults.{told};
 
 use crate::fault::ReadFault;
 
 // A layer that judges a month file.
-#[derive(Clone, Copy)]
+#[derive(Clone, Copy, PartialEq, Eq, Debug)]
 pub enum Layer {
     File,
     Plan,
     Book,
 }
 
-#[derive(Clone, Copy)]
+#[derive(Clone, Copy, PartialEq, Eq, Debug)]
 pub struct Told {
     pub layer: Layer,
     pub number: u8,
@@ -23,7 +23,7 @@ pub struct Told {
 impl ReadFault {
     // Layer, number and place of the fault; want of memory tells none.
     pub fn told(self) -> Option<Told>
-        ensures { result ≡ told_of self }
+        ensures { result ≡ told self }
     {
         match self {
             ReadFault::File(placed) => Some(Told {

@@ -3,6 +3,9 @@ use Rattle.std.proofs.Common.{◌≡◌, ℕ, ◌+◌, ◌*◌, true, List, [], 
 use Rattle.std.specs.List.{flat_map}
 use Rattle.std.proofs.lemmas.List.{length-append, length-map}
 use Rattle.std.proofs.lemmas.Bool.{false≢true}
+use Rattle.std.proofs.lemmas.Grind.{flat_map-append}
+use Rattle.std.proofs.lemmas.List.Concat.{flat_map_single}
+use Rattle.std.proofs.lemmas.List.Folds.{flat_map-map}
 use Rattle.plan.specs.Calls.{PlanCall, AddMeter, AddCarried}
 use Rattle.plan.specs.Contents.{Contents, PeriodNumbers, SegmentNumbers}
 use Rattle.plan.specs.Limits.{most_segments}
@@ -14,14 +17,7 @@ use Rattle.words.specs.declared.word.Word.{Word}
 use Rattle.monthfile.specs.File.{call_words, booking_words, file_of, file_words}
 use Rattle.monthwriter.specs.Placing.{word_bytes, meter_word, peak_word}
 use Rattle.monthwriter.proofs.Present.{full_length}
-use Rattle.monthwriter.proofs.Putting.{joined-append, length-bytes}
-
--- calls of one word each
-singles : {X : Type 0} (call : X → PlanCall) (word : X → Word) → ((x : X) → call_words (call x) ≡ word x ∷ []) → (xs : List X)
-    → flat_map call_words (map call xs) ≡ map word xs
-singles call word one [] = refl
-singles call word one (x ∷ xs) =
-    ap (λ ws. ws ++ flat_map call_words (map call xs)) (one x) ∙ ap (λ ws. word x ∷ ws) (singles call word one xs)
+use Rattle.monthwriter.proofs.Putting.{length-bytes}
 
 abbrev pub period_words : Contents → List Word
 period_words plan = flat_map call_words (period_call plan.period)
@@ -41,13 +37,13 @@ file_parts plan bs =
     let peaks : List PlanCall = map AddCarried plan.carried in
     let segments : List PlanCall = segment_calls 0 plan.segments in
     let entries : flat_map call_words (meters ++ peaks) ≡ entry_words plan =
-    joined-append call_words meters peaks
-    ∙ ap (λ ws. ws ++ flat_map call_words peaks) (singles AddMeter meter_word (λ _. refl) plan.meters)
-    ∙ ap (λ ws. map meter_word plan.meters ++ ws) (singles AddCarried peak_word (λ _. refl) plan.carried) in
+    flat_map-append call_words meters peaks
+    ∙ ap (λ ws. ws ++ flat_map call_words peaks) (flat_map-map call_words AddMeter plan.meters ∙ flat_map_single meter_word plan.meters)
+    ∙ ap (λ ws. map meter_word plan.meters ++ ws) (flat_map-map call_words AddCarried plan.carried ∙ flat_map_single peak_word plan.carried) in
     ap (λ ws. ws ++ booking_words None bs)
-    (joined-append call_words (period_call plan.period) (segments ++ (meters ++ peaks))
+    (flat_map-append call_words (period_call plan.period) (segments ++ (meters ++ peaks))
     ∙ ap (λ ws. period_words plan ++ ws)
-    (joined-append call_words segments (meters ++ peaks) ∙ ap (λ ws. segment_words plan ++ ws) entries))
+    (flat_map-append call_words segments (meters ++ peaks) ∙ ap (λ ws. segment_words plan ++ ws) entries))
     ∙ append_assoc (period_words plan) (segment_words plan ++ entry_words plan) (booking_words None bs)
     ∙ ap (λ ws. period_words plan ++ ws) (append_assoc (segment_words plan) (entry_words plan) (booking_words None bs))
 

@@ -1,14 +1,15 @@
 -- Words put into memory from a place on. Promises of the code's own parts cite it, no public promise does.
 use Rattle.std.specs.Prelude.{◌≡◌, ℕ, ◌+◌, ◌*◌, ◌≤◌, List, [], ◌∷◌, ◌++◌, length, take, drop, Option}
-use Rattle.std.specs.Option.{option_map}
 use Rattle.std.specs.List.{AllByRecursion}
 use Rattle.plan.specs.declared.booking.Booking.{Booking}
 use Rattle.plan.specs.declared.carried.CarriedPeak.{CarriedPeak}
 use Rattle.plan.specs.declared.meter.Meter.{Meter as PlanMeter}
 use Rattle.words.specs.Layout.{FieldsFit}
+use Rattle.words.specs.declared.spot.Spot.{Spot}
 use Rattle.words.specs.declared.word.Word.{Word}
 use Rattle.words.specs.declared.word.Word.TheVariants.{Meter, Amount, Carried}
-use Rattle.monthfile.specs.File.{Spot, spot_of, one_on, comes_next, select_words, bytes_of}
+use Rattle.monthwriter.specs.declared.placing.Output.{Output}
+use Rattle.monthfile.specs.File.{spot_of, comes_next, select_words, bytes_of}
 
 -- the bytes of a word
 abbrev pub word_bytes : ℕ
@@ -19,15 +20,16 @@ unfoldable pub with_words : ℕ → List Word → List ℕ → List ℕ
 with_words start words memory =
     take start memory ++ (bytes_of words ++ drop (start + word_bytes * length words) memory)
 
--- words that fit their bits, and memory that has room for them from a place on
-pub record RoomFor (start : ℕ) (words : List Word) (memory : List ℕ) : Type 0 where
+-- words that fit their bits, and an output that has room for them
+pub record RoomFor (out : Output) (words : List Word) : Type 0 where
   pub fits : AllByRecursion FieldsFit words
-  pub long : start + word_bytes * length words ≤ length memory
+  pub long : out.next + word_bytes * length words ≤ length out.memory.now
 
--- what putting words leaves: the memory with them; and the place after them, which is the answer
-pub record WordsPut (start : ℕ) (words : List Word) (before : List ℕ) (next : ℕ) (after : List ℕ) : Type 0 where
-  pub place : next ≡ start + word_bytes * length words
-  pub memory : after ≡ with_words start words before
+-- what putting words leaves: the same memory, with them in it; and the place after them
+pub record WordsPut (before : Output) (words : List Word) (after : Output) : Type 0 where
+  pub same_reference : after.memory.ghost_name ≡ before.memory.ghost_name
+  pub place : after.next ≡ before.next + word_bytes * length words
+  pub memory : after.memory.now ≡ with_words before.next words before.memory.now
 
 -- the word of a meter
 abbrev pub meter_word : PlanMeter → Word
@@ -36,10 +38,6 @@ meter_word m = Meter m.segment m.user m.station m.number
 -- the word of a carried peak
 abbrev pub peak_word : CarriedPeak → Word
 peak_word p = Carried p.meter p.amount
-
--- the meter's hour that comes next after the last booking, if there was one
-abbrev pub next_after : Option Booking → Option Spot
-next_after last = option_map (λ b. one_on (spot_of b)) last
 
 -- the words of one booking, where the next amount would book this hour
 abbrev pub words_of_booking : Option Spot → Booking → List Word

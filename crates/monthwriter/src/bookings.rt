@@ -1,68 +1,80 @@
 // Puts bookings, and counts their words.
-ghost use Rattle.std.specs.Prelude.{◌≡◌, ◌*◌, ◌≤◌, length, None};
-ghost use Rattle.monthfile.specs.File.{booking_words, comes_next, spot_of};
-ghost use Rattle.monthwriter.specs.Placing.{RoomFor, WordsPut, next_after, words_of_booking};
+ghost use Rattle.std.specs.Prelude.{◌≡◌, ◌*◌, ◌≤◌, true, length, None};
+ghost use Rattle.std.specs.List.{list_all};
+ghost use Rattle.monthfile.specs.File.{booking_words, comes_next, one_on, select_words, spot_of};
+ghost use Rattle.monthwriter.specs.Placing.{RoomFor, WordsPut, words_of_booking};
+ghost use Rattle.monthwriter.specs.Refusals.{is_held};
 
-use crate::placing::put_word;
+use crate::placing::Output;
 use plan::Booking;
-use words::Word;
+use words::{Spot, Word};
 
-pub(crate) fn put_bookings(bookings: &[Booking], out: &mut [u8], mut at: usize) -> usize
-    requires { RoomFor at (booking_words None bookings.now) out.old }
-    ensures { WordsPut at (booking_words None bookings.now) out.old result out.new }
+pub(crate) fn put_bookings(bookings: &[Booking], out: &mut Output<'_>)
+    requires held { list_all is_held bookings.now ≡ true }
+    requires room { RoomFor out.old (booking_words None bookings.now) }
+    ensures { WordsPut out.old (booking_words None bookings.now) out.new }
 {
-    let mut last = None;
+    let mut next = None;
     for booking in bookings {
-        at = put_booking(last, booking, out, at);
-        last = Some(*booking);
+        put_booking(next, booking, out);
+        next = Some(hour_after(booking));
     }
-    at
 }
 
-// A booking is an amount, with a select before it unless it comes next after the last booking.
-fn put_booking(last: Option<Booking>, booking: &Booking, out: &mut [u8], at: usize) -> usize
-    requires { RoomFor at (words_of_booking (next_after last) booking.now) out.old }
-    ensures { WordsPut at (words_of_booking (next_after last) booking.now) out.old result out.new }
+// A booking is an amount, with a select before it unless it is of the hour that comes next.
+fn put_booking(next: Option<Spot>, booking: &Booking, out: &mut Output<'_>)
+    requires { RoomFor out.old (words_of_booking next booking.now) }
+    ensures { WordsPut out.old (words_of_booking next booking.now) out.new }
 {
-    let amount = Word::Amount {
+    put_select(next, spot_of(booking), out);
+    out.put(Word::Amount {
         amount: booking.amount,
-    };
-    if comes_next(last, booking) {
-        return put_word(amount, out, at);
+    });
+}
+
+// Puts the select of the hour, unless it is the one that comes next.
+fn put_select(next: Option<Spot>, spot: Spot, out: &mut Output<'_>)
+    requires { RoomFor out.old (select_words (comes_next next spot) spot) }
+    ensures { WordsPut out.old (select_words (comes_next next spot) spot) out.new }
+{
+    if next != Some(spot) {
+        out.put(Word::Select(spot));
     }
-    let select = Word::Select {
-        segment: booking.segment,
-        meter: booking.meter,
-        hour: booking.hour,
-    };
-    let at = put_word(select, out, at);
-    put_word(amount, out, at)
 }
 
 // How many words the bookings have.
 pub(crate) fn count_words(bookings: &[Booking]) -> u128
+    requires { list_all is_held bookings.now ≡ true }
     ensures count { result ≡ length (booking_words None bookings.now) }
     ensures bound { result ≤ 2 * length bookings.now }
 {
     let mut words = 0;
-    let mut last = None;
+    let mut next = None;
     for booking in bookings {
-        words += if comes_next(last, booking) { 1 } else { 2 };
-        last = Some(*booking);
+        words += if next == Some(spot_of(booking)) { 1 } else { 2 };
+        next = Some(hour_after(booking));
     }
     words
 }
 
-// Whether the booking is of the same meter as the last one, and of the hour after it.
-fn comes_next(last: Option<Booking>, booking: &Booking) -> bool
-    ensures { result ≡ comes_next (next_after last) (spot_of booking.now) }
+// The meter's hour that the booking books.
+fn spot_of(booking: &Booking) -> Spot
+    ensures { result ≡ spot_of booking.now }
 {
-    match last {
-        Some(last) => {
-            last.segment == booking.segment
-                && last.meter == booking.meter
-                && booking.hour.saturating_sub(last.hour) == 1
-        }
-        None => false,
+    Spot {
+        segment: booking.segment,
+        meter: booking.meter,
+        hour: booking.hour,
+    }
+}
+
+// The hour after it.
+fn hour_after(booking: &Booking) -> Spot
+    requires { is_held booking.now ≡ true }
+    ensures { result ≡ one_on (spot_of booking.now) }
+{
+    Spot {
+        hour: booking.hour + 1,
+        ..spot_of(booking)
     }
 }

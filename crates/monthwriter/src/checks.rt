@@ -37,12 +37,7 @@ pub(crate) fn check(plan: &Plan, bookings: &[Booking], room: usize) -> Result<()
 fn all_held(bookings: &[Booking]) -> bool
     ensures { result ≡ list_all is_held bookings.now }
 {
-    for booking in bookings {
-        if !is_held(booking) {
-            return false;
-        }
-    }
-    true
+    bookings.iter().all(is_held)
 }
 
 // Whether a file can hold the booking.
@@ -57,7 +52,8 @@ fn is_held(booking: &Booking) -> bool
 
 // How many bytes the file has. The sum has more bits than a length in memory, so that it cannot wrap.
 fn file_length(plan: &Plan, bookings: &[Booking]) -> u128
-    requires { is_full (contents plan.now) ≡ true }
+    requires full { is_full (contents plan.now) ≡ true }
+    requires held { list_all is_held bookings.now ≡ true }
     ensures { result ≡ length (file_of (contents plan.now) bookings.now) }
 {
     let entries = plan.meters().len() as u128 + plan.carried().len() as u128;

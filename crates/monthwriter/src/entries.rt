@@ -4,7 +4,7 @@ ghost use Rattle.plan.specs.OfPlan.{contents};
 ghost use Rattle.words.specs.declared.word.Word.{Word};
 ghost use Rattle.monthwriter.specs.Placing.{RoomFor, WordsPut, meter_word, peak_word};
 
-use crate::placing::put_word;
+use crate::placing::Output;
 use plan::{CarriedPeak, Meter, Plan};
 use words::Word;
 
@@ -39,20 +39,19 @@ impl PlanEntry for CarriedPeak {
     }
 }
 
-pub(crate) fn put_meters_and_peaks(plan: &Plan, out: &mut [u8], at: usize) -> usize
-    requires { RoomFor at (map meter_word (contents plan.now).meters ++ map peak_word (contents plan.now).carried) out.old }
-    ensures { WordsPut at (map meter_word (contents plan.now).meters ++ map peak_word (contents plan.now).carried) out.old result out.new }
+pub(crate) fn put_meters_and_peaks(plan: &Plan, out: &mut Output<'_>)
+    requires { RoomFor out.old (map meter_word (contents plan.now).meters ++ map peak_word (contents plan.now).carried) }
+    ensures { WordsPut out.old (map meter_word (contents plan.now).meters ++ map peak_word (contents plan.now).carried) out.new }
 {
-    let at = put_entries(plan.meters(), out, at);
-    put_entries(plan.carried(), out, at)
+    put_entries(plan.meters(), out);
+    put_entries(plan.carried(), out);
 }
 
-fn put_entries<E: PlanEntry>(entries: &[E], out: &mut [u8], mut at: usize) -> usize
-    requires { RoomFor at (map E.in_file entries.now) out.old }
-    ensures { WordsPut at (map E.in_file entries.now) out.old result out.new }
+fn put_entries<E: PlanEntry>(entries: &[E], out: &mut Output<'_>)
+    requires { RoomFor out.old (map E.in_file entries.now) }
+    ensures { WordsPut out.old (map E.in_file entries.now) out.new }
 {
-    for item in entries {
-        at = put_word(item.word(), out, at);
+    for entry in entries {
+        out.put(entry.word());
     }
-    at
 }

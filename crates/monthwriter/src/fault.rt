@@ -5,11 +5,11 @@ ghost use Rattle.monthwriter.specs.Refusals.{number_of};
 #[derive(Clone, Copy, PartialEq, Eq, Debug)]
 pub enum WriteFault {
     // the plan has not all its segments
-    NotFull,
+    NotFull = 2,
     // a booking that a file cannot hold
-    OutsideLimits,
+    OutsideLimits = 3,
     // the memory is shorter than the file
-    ShortMemory,
+    ShortMemory = 10,
 }
 
 impl WriteFault {
@@ -17,10 +17,6 @@ impl WriteFault {
     pub fn number(self) -> u8
         ensures { result ≡ number_of self }
     {
-        match self {
-            WriteFault::NotFull => 2,
-            WriteFault::OutsideLimits => 3,
-            WriteFault::ShortMemory => 10,
-        }
+        self as u8
     }
 }

@@ -9,51 +9,48 @@ ghost use Rattle.plan.specs.WellMade.{period_call, segment_calls};
 ghost use Rattle.monthfile.specs.File.{call_words};
 ghost use Rattle.monthwriter.specs.Placing.{RoomFor, WordsPut};
 
-use crate::placing::put_word;
+use crate::placing::Output;
 use plan::{MOST_SEGMENTS, Plan};
 use tariff::Terms;
-use words::Word;
+use words::{SegmentWord, Word};
 
-pub(crate) fn put_period(plan: &Plan, out: &mut [u8], at: usize) -> usize
+pub(crate) fn put_period(plan: &Plan, out: &mut Output<'_>)
     requires full { is_full (contents plan.now) ≡ true }
-    requires room { RoomFor at (flat_map call_words (period_call (contents plan.now).period)) out.old }
-    ensures { WordsPut at (flat_map call_words (period_call (contents plan.now).period)) out.old result out.new }
+    requires room { RoomFor out.old (flat_map call_words (period_call (contents plan.now).period)) }
+    ensures { WordsPut out.old (flat_map call_words (period_call (contents plan.now).period)) out.new }
 {
     let period = plan.period().unwrap();
-    let word = Word::Period {
+    out.put(Word::Period {
         year: period.year(),
         month: period.month(),
         hours: period.hours(),
-    };
-    put_word(word, out, at)
+    });
 }
 
-pub(crate) fn put_segments(plan: &Plan, out: &mut [u8], mut at: usize) -> usize
+pub(crate) fn put_segments(plan: &Plan, out: &mut Output<'_>)
     requires full { is_full (contents plan.now) ≡ true }
-    requires room { RoomFor at (flat_map call_words (segment_calls 0 (contents plan.now).segments)) out.old }
-    ensures { WordsPut at (flat_map call_words (segment_calls 0 (contents plan.now).segments)) out.old result out.new }
+    requires room { RoomFor out.old (flat_map call_words (segment_calls 0 (contents plan.now).segments)) }
+    ensures { WordsPut out.old (flat_map call_words (segment_calls 0 (contents plan.now).segments)) out.new }
 {
+    // By their numbers, which the plan and the words take.
     for segment in 0..MOST_SEGMENTS {
         let terms = plan.terms(segment).unwrap();
-        at = put_segment(segment, &terms, out, at);
+        put_segment(segment, &terms, out);
     }
-    at
 }
 
 // A segment has two words.
-fn put_segment(segment: u32, terms: &Terms, out: &mut [u8], at: usize) -> usize
-    requires { RoomFor at (call_words (AddSegment segment (segment_numbers terms.now))) out.old }
-    ensures { WordsPut at (call_words (AddSegment segment (segment_numbers terms.now))) out.old result out.new }
+fn put_segment(segment: u32, terms: &Terms, out: &mut Output<'_>)
+    requires { RoomFor out.old (call_words (AddSegment segment (segment_numbers terms.now))) }
+    ensures { WordsPut out.old (call_words (AddSegment segment (segment_numbers terms.now))) out.new }
 {
-    let first = Word::Segment {
+    out.put(Word::Segment(SegmentWord {
         segment,
-        service: terms.service().number(),
+        service: u32::from(terms.service()),
         tariff: terms.tariff(),
-    };
-    let second = Word::Factor {
+    }));
+    out.put(Word::Factor {
         segment,
         factor: terms.factor(),
-    };
-    let at = put_word(first, out, at);
-    put_word(second, out, at)
+    });
 }

@@ -1,6 +1,6 @@
 // The worked file of July 2022, and the limits of the writer.
-use crate::write;
-use plan::{Booking, Plan};
+use crate::{WriteFault, write};
+use plan::{Booking, CarriedPeak, Meter, Plan};
 use std::process::Abort;
 use words::Window;
 
@@ -19,8 +19,15 @@ fn july(rt: &(impl Abort + AllocGlobal), segments: u32) -> Plan {
         assert!(rt; plan.add_segment(segment, 0, 1067, 1000).is_ok());
     }
     if plan.is_full() {
-        assert!(rt; plan.add_meter(0, 0, 0, 0).is_ok());
-        assert!(rt; plan.add_meter(0, 1, 1, 0).is_ok());
+        for number in [0, 1] {
+            let meter = Meter {
+                segment: 0,
+                number,
+                user: number,
+                station: 0,
+            };
+            assert!(rt; plan.add_meter(meter).is_ok());
+        }
     }
     plan
 }
@@ -37,10 +44,9 @@ fn booked(fields: [u32; 4]) -> Booking {
 
 // The number of the refusal, or 0 where the file is written.
 fn answer(plan: &Plan, fields: [u32; 4], out: &mut [u8]) -> u8 {
-    match write(plan, &[booked(fields)], out) {
-        Ok(_) => 0,
-        Err(fault) => fault.number(),
-    }
+    write(plan, &[booked(fields)], out)
+        .err()
+        .map_or(0, WriteFault::number)
 }
 
 #[test]
@@ -66,7 +72,11 @@ fn worked_file(rt: HostRuntime) {
 #[test]
 fn carried_peak(rt: HostRuntime) {
     let mut plan = july(&rt, 4);
-    assert!(rt; plan.add_carried(1, 500).is_ok());
+    let peak = CarriedPeak {
+        meter: 1,
+        amount: 500,
+    };
+    assert!(rt; plan.add_carried(peak).is_ok());
     let mut out = [0; 48];
     assert_eq!(rt; write(&plan, &[], &mut out).ok(), Some(48));
     let [.., a, b, c, d] = out;

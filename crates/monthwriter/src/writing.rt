@@ -1,11 +1,11 @@
 // Writes the file of a plan and its bookings.
-ghost use Rattle.std.specs.Prelude.{◌≡◌, ◌≤◌, true, length, take, IfOk};
+ghost use Rattle.std.specs.Prelude.{◌≡◌, true, take, IfOk};
 ghost use Rattle.std.specs.List.{list_all};
 ghost use Rattle.plan.specs.OfPlan.{contents};
 ghost use Rattle.plan.specs.Questions.{is_full};
-ghost use Rattle.monthfile.specs.File.{file_of, file_words};
+ghost use Rattle.monthfile.specs.File.{file_words};
 ghost use Rattle.monthfile.specs.Inverse.{FileAndReading};
-ghost use Rattle.monthwriter.specs.Placing.{WordsPut};
+ghost use Rattle.monthwriter.specs.Placing.{RoomFor, WordsPut};
 ghost use Rattle.monthwriter.specs.Refusals.{is_held};
 ghost use Rattle.monthwriter.specs.Written.{FileWritten, ReadsBack};
 
@@ -14,6 +14,7 @@ use crate::checks::check;
 use crate::entries::put_meters_and_peaks;
 use crate::fault::WriteFault;
 use crate::head::{put_period, put_segments};
+use crate::placing::Output;
 use plan::{Booking, Plan};
 
 // Writes the file to the front of the memory and answers its length, or the first fault, with the memory untouched. The file
@@ -24,17 +25,19 @@ pub fn write(plan: &Plan, bookings: &[Booking], out: &mut [u8]) -> Result<usize,
     ensures inverse { FileAndReading }
 {
     check(plan, bookings, out.len())?;
-    Ok(put_file(plan, bookings, out))
+    let mut file = Output::new(out);
+    put_file(plan, bookings, &mut file);
+    Ok(file.length())
 }
 
-fn put_file(plan: &Plan, bookings: &[Booking], out: &mut [u8]) -> usize
+fn put_file(plan: &Plan, bookings: &[Booking], out: &mut Output<'_>)
     requires full { is_full (contents plan.now) ≡ true }
     requires held { list_all is_held bookings.now ≡ true }
-    requires room { length (file_of (contents plan.now) bookings.now) ≤ length out.old }
-    ensures { WordsPut 0 (file_words (contents plan.now) bookings.now) out.old result out.new }
+    requires room { RoomFor out.old (file_words (contents plan.now) bookings.now) }
+    ensures { WordsPut out.old (file_words (contents plan.now) bookings.now) out.new }
 {
-    let at = put_period(plan, out, 0);
-    let at = put_segments(plan, out, at);
-    let at = put_meters_and_peaks(plan, out, at);
-    put_bookings(bookings, out, at)
+    put_period(plan, out);
+    put_segments(plan, out);
+    put_meters_and_peaks(plan, out);
+    put_bookings(bookings, out);
 }

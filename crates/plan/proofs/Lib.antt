@@ -1,10 +1,9 @@
 pub mod Complete
-pub mod Firsts
 pub mod Judged
 pub mod Kept
 pub mod Only
-pub mod Orders
 pub mod Passing
+pub mod Places
 pub mod Replayed
 pub mod Standing
 pub mod Within

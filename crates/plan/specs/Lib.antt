@@ -1,5 +1,7 @@
 -- The definitions that the contracts of a plan cite.
 pub mod Limits
+pub mod Segments
+pub mod Places
 pub mod Faults
 pub mod Contents
 pub mod Questions

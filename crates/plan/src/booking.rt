@@ -1,6 +1,7 @@
 // A booking: what a meter took in an hour.
-#[derive(Clone, Copy)]
+#[derive(Clone, Copy, PartialEq, Eq, Debug)]
 pub struct Booking {
+    // As the caller gave it, as in `Meter`.
     pub segment: u32,
     pub meter: u32,
     pub hour: u32,

@@ -19,7 +19,7 @@ pub enum PlanFault {
 }
 
 impl PlanFault {
-    // The number that the caller is told, if the fault has one.
+    // The number that the caller is told, if the fault has one. Discriminants cannot say it, as want of memory has none.
     pub fn number(self) -> Option<u8>
         ensures { result ≡ number_of self }
     {

@@ -3,10 +3,12 @@
 
 mod booking;
 mod carried;
+mod entry;
 mod fault;
 mod limits;
 mod meter;
 mod plan;
+mod segment;
 #[cfg(test)]
 mod tests;
 
@@ -16,3 +18,4 @@ pub use fault::PlanFault;
 pub use limits::{AMR, GREATEST_AMOUNT, MOST_METERS, MOST_SEGMENTS, MOST_STATIONS, MOST_USERS};
 pub use meter::{Holder, Meter};
 pub use plan::Plan;
+pub use segment::{Segment, UnknownSegment};

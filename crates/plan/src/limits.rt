@@ -1,5 +1,7 @@
 // The limits of a plan. Numbers count from 0.
-pub const MOST_SEGMENTS: u32 = 4;
+use crate::segment::Segment;
+
+pub const MOST_SEGMENTS: u32 = Segment::ALL.len() as u32;
 
 // Of one segment.
 pub const MOST_METERS: u32 = 64;
@@ -12,4 +14,4 @@ pub const MOST_STATIONS: u32 = 16;
 pub const GREATEST_AMOUNT: u32 = 20_000;
 
 // The segment whose meters carry a peak over from earlier months.
-pub const AMR: u32 = 0;
+pub const AMR: u32 = Segment::Amr as u32;

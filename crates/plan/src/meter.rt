@@ -1,12 +1,15 @@
 // A meter of a segment, and whose it is.
 ghost use Rattle.std.specs.Prelude.{◌≡◌};
-ghost use Rattle.plan.specs.Calls.{meter_fits, precedes};
-ghost use Rattle.plan.specs.Questions.{is_meter, holding};
+ghost use Rattle.plan.specs.Calls.{meter_fits};
+ghost use Rattle.plan.specs.Questions.{holding};
 
-use crate::limits::{MOST_METERS, MOST_SEGMENTS, MOST_STATIONS, MOST_USERS};
+use crate::entry::Entry;
+use crate::limits::{MOST_METERS, MOST_STATIONS, MOST_USERS};
+use crate::segment::Segment;
 
-#[derive(Clone, Copy)]
+#[derive(Clone, Copy, PartialEq, Eq, Debug)]
 pub struct Meter {
+    // As the caller gave it, which may be no segment's number: the plan judges it, and a narrower type would ask more of the caller.
     pub segment: u32,
     pub number: u32,
     pub user: u32,
@@ -14,35 +17,13 @@ pub struct Meter {
 }
 
 // The user whose a meter is, and the station that it stands at.
-#[derive(Clone, Copy)]
+#[derive(Clone, Copy, PartialEq, Eq, Debug)]
 pub struct Holder {
     pub user: u32,
     pub station: u32,
 }
 
 impl Meter {
-    pub(crate) fn precedes(&self, other: &Meter) -> bool
-        ensures { result ≡ precedes self.now other.now }
-    {
-        self.segment < other.segment
-            || (self.segment == other.segment && self.number < other.number)
-    }
-
-    pub(crate) fn is_within_limits(&self) -> bool
-        ensures { result ≡ meter_fits self.now }
-    {
-        self.segment < MOST_SEGMENTS
-            && self.number < MOST_METERS
-            && self.user < MOST_USERS
-            && self.station < MOST_STATIONS
-    }
-
-    pub(crate) fn is_meter(&self, segment: u32, number: u32) -> bool
-        ensures { result ≡ is_meter segment number self.now }
-    {
-        self.segment == segment && self.number == number
-    }
-
     pub(crate) fn holder(&self) -> Holder
         ensures { result ≡ holding self.now }
     {
@@ -50,5 +31,22 @@ impl Meter {
             user: self.user,
             station: self.station,
         }
+    }
+}
+
+impl Entry for Meter {
+    ghost place_of = { λ m. (m.segment, m.number) };
+
+    ghost fits = { meter_fits };
+
+    fn place(&self) -> (u32, u32) {
+        (self.segment, self.number)
+    }
+
+    fn is_within_limits(&self) -> bool {
+        Segment::try_from(self.segment).is_ok()
+            && self.number < MOST_METERS
+            && self.user < MOST_USERS
+            && self.station < MOST_STATIONS
     }
 }

@@ -1,4 +1,4 @@
-use crate::{Plan, PlanFault};
+use crate::{CarriedPeak, Meter, Plan, PlanFault};
 use std::process::Abort;
 use std::test::Fail;
 
@@ -17,9 +17,14 @@ fn made(plan: &mut Plan, call: Call) -> Result<(), PlanFault> {
             plan.add_segment(segment, service, tariff, factor)
         }
         Call::Meter(segment, number, user, station) => {
-            plan.add_meter(segment, number, user, station)
+            plan.add_meter(Meter {
+                segment,
+                number,
+                user,
+                station,
+            })
         }
-        Call::Peak(meter, amount) => plan.add_carried(meter, amount),
+        Call::Peak(meter, amount) => plan.add_carried(CarriedPeak { meter, amount }),
     }
 }
 

@@ -2,7 +2,8 @@
 #![tactic(auto)]
 
 use anyhow::anyhow;
-use calculator::{Reply, reply_to};
+use calculator::{RequestFault, reply_to};
+use std::alloc::AllocError;
 use std::env;
 
 const USAGE: &str = "usage: recompute largest TOTAL WEIGHT..
@@ -12,21 +13,24 @@ const USAGE: &str = "usage: recompute largest TOTAL WEIGHT..
 The first two print the shares of the total, one for each weight; then a segment's total in kWh/h; then a fee in cents.
 A refusal prints REFUSED and its number. Numbers have at most 64 bits.";
 
-// Prints the reply, or the usage where there is none. A refusal and bad usage end with status 1.
-fn tell(rt: &HostRuntime, reply: Option<Reply>) -> anyhow::Result<()> {
-    let Some(reply) = reply else {
-        rt.eprintln(USAGE)?;
-        return Err(anyhow!("bad usage"));
-    };
-    rt.println(reply.line.as_str())?;
-    if reply.refused {
-        return Err(anyhow!("refused"));
+// Prints the line, or the usage where there is no request. A refusal and bad usage end with status 1.
+fn tell(rt: &HostRuntime, answer: Result<String, RequestFault>) -> anyhow::Result<()> {
+    match answer {
+        Ok(line) => Ok(rt.println(line.as_str())?),
+        Err(RequestFault::BadUsage) => {
+            rt.eprintln(USAGE)?;
+            Err(anyhow!("bad usage"))
+        }
+        Err(RequestFault::Memory) => Err(AllocError.into()),
+        Err(refusal) => {
+            rt.println(refusal)?;
+            Err(anyhow!("refused"))
+        }
     }
-    Ok(())
 }
 
 fn main(rt: HostRuntime) -> anyhow::Result<()> {
     let heap = rt.alloc();
     let words: Vec<String> = env::args(&rt)?.skip(1).collect(heap)?;
-    tell(&rt, reply_to(heap, &words)?)
+    tell(&rt, reply_to(heap, &words))
 }

@@ -1,6 +1,7 @@
 -- The fee of a capacity in cents: the exact quotient, and the whole number nearest to it.
 use Rattle.std.specs.Prelude.{◌≡◌, ℕ, ◌+◌, ◌-◌, ◌*◌, ◌/◌, ◌≤◌, min, max, List, [], ◌∷◌, Option, nat_le, slice_index}
-use Rattle.calendar.specs.Calendar.{billed_days, days_of_year}
+use Rattle.calendar.specs.Calendar.{days_of_year}
+use Rattle.calendar.specs.OfPeriod.{days_billed}
 use Rattle.calendar.specs.declared.period.Period.{Period}
 use Rattle.tariff.specs.declared.quotient.Quotient.{Quotient}
 use Rattle.tariff.specs.declared.service.Service.{Service}
@@ -39,7 +40,7 @@ times count q = record { dividend = count * q.dividend; divisor = q.divisor }
 
 -- the charge that every fee starts from: capacity × tariff × days billed
 abbrev pub charge_for : Period → Terms → ℕ → ℕ
-charge_for p t capacity = capacity * t.tariff * billed_days p.year p.month p.hours
+charge_for p t capacity = capacity * t.tariff * days_billed p
 
 -- the exact fee in cents of a service under a year, from the charge, the month's season and the days of the year
 abbrev pub seasonal_fee : ℕ → ℕ → ℕ → Quotient

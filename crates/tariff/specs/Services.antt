@@ -1,7 +1,8 @@
 -- The three services, and the terms that a period allows.
-use Rattle.std.specs.Prelude.{ℕ, Bool, not, ◌&&◌, ◌||◌, Option, ◌==◌, nat_le}
+use Rattle.std.specs.Prelude.{◌≡◌, ◌≢◌, ℕ, Bool, not, ◌&&◌, ◌||◌, MatchResult, Option, Result, ◌==◌, nat_le}
 use Rattle.tariff.specs.declared.service.Service.{Service}
 use Rattle.tariff.specs.declared.service.Service.TheVariants.{FullYear, PartYear, PartMonth}
+use Rattle.tariff.specs.declared.service.UnknownService.{UnknownService}
 use Rattle.tariff.specs.Limits.{greatest_tariff, greatest_factor}
 use Rattle.tariff.specs.Faults.{refused_unless}
 
@@ -10,6 +11,12 @@ abbrev pub service_number : Service → ℕ
 service_number FullYear = 0
 service_number PartYear = 1
 service_number PartMonth = 2
+
+-- what the service of a number is: the one whose number it is, or none where no service has it
+abbrev pub NumbersService : ℕ → Result Service UnknownService → Type 0
+NumbersService number r = MatchResult r
+    (λ service. service_number service ≡ number)
+    (λ unknown. (unknown.0 ≡ number) × ((service : Service) → service_number service ≢ number))
 
 -- is this the number of a service that may be taken: the full-year service always,
 -- the one under a year where the whole month is billed, the one under a month where less is

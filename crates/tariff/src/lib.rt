@@ -12,6 +12,6 @@ mod total;
 
 pub use fault::TariffFault;
 pub use fees::fee;
-pub use service::Service;
+pub use service::{Service, UnknownService};
 pub use terms::Terms;
 pub use total::segment_total;

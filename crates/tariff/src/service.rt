@@ -1,49 +1,54 @@
 // The services under which a segment's capacity is booked.
-ghost use Rattle.std.specs.Prelude.{◌≡◌, MatchOption, ◌≢◌};
-ghost use Rattle.calendar.specs.Calendar.{whole_month};
-ghost use Rattle.tariff.specs.Services.{service_number, allows_service};
+ghost use Rattle.std.specs.Prelude.{◌≡◌};
+ghost use Rattle.calendar.specs.OfPeriod.{is_whole};
+ghost use Rattle.tariff.specs.Services.{NumbersService, allows_service, service_number};
 
 use calendar::Period;
 
-#[derive(Clone, Copy)]
+#[derive(Clone, Copy, PartialEq, Eq, Debug)]
 pub enum Service {
-    FullYear,
+    FullYear = 0,
     // Under a year.
-    PartYear,
+    PartYear = 1,
     // Under a month.
-    PartMonth,
+    PartMonth = 2,
 }
 
+// A number that no service has.
+#[derive(Clone, Copy, PartialEq, Eq, Debug)]
+pub struct UnknownService(pub u32);
+
 impl Service {
-    // The service that has this number, if one has.
-    pub fn from_number(number: u32) -> Option<Service>
-        ensures { MatchOption result ((s : Service) → service_number s ≢ number) (λ s. service_number s ≡ number) }
-    {
-        match number {
-            0 => Some(Service::FullYear),
-            1 => Some(Service::PartYear),
-            2 => Some(Service::PartMonth),
-            _ => None,
-        }
-    }
-
-    pub fn number(self) -> u32
-        ensures { result ≡ service_number self }
-    {
-        match self {
-            Service::FullYear => 0,
-            Service::PartYear => 1,
-            Service::PartMonth => 2,
-        }
-    }
-
     pub(crate) fn is_allowed(self, period: &Period) -> bool
-        ensures { result ≡ allows_service (whole_month period.now.year period.now.month period.now.hours) (service_number self) }
+        ensures { result ≡ allows_service (is_whole period.now) (service_number self) }
     {
         match self {
             Service::FullYear => true,
             Service::PartYear => period.is_whole_month(),
             Service::PartMonth => !period.is_whole_month(),
+        }
+    }
+}
+
+impl From<Service> for u32 {
+    ghost from_gives = { λ service number. number ≡ service_number service };
+
+    fn from(service: Service) -> u32 {
+        service as u32
+    }
+}
+
+impl TryFrom<u32> for Service {
+    type Error = UnknownService;
+
+    ghost try_from_gives = { NumbersService };
+
+    fn try_from(number: u32) -> Result<Service, UnknownService> {
+        match number {
+            0 => Ok(Service::FullYear),
+            1 => Ok(Service::PartYear),
+            2 => Ok(Service::PartMonth),
+            _ => Err(UnknownService(number)),
         }
     }
 }

@@ -1,6 +1,6 @@
 // The terms of a segment in a plan.
 ghost use Rattle.std.specs.Prelude.{◌≡◌, ◌≤◌, IfOk};
-ghost use Rattle.calendar.specs.Calendar.{whole_month};
+ghost use Rattle.calendar.specs.OfPeriod.{is_whole};
 ghost use Rattle.tariff.specs.Faults.{told};
 ghost use Rattle.tariff.specs.Limits.{greatest_tariff, greatest_factor};
 ghost use Rattle.tariff.specs.Services.{service_number, terms_refusal};
@@ -25,20 +25,19 @@ pub struct Terms {
 }
 
 impl Terms {
-    // The terms, if the period allows the service and both numbers are within their limits.
+    // The terms, if the period allows the service and both numbers are within their limits. The numbers come one by one: a
+    // struct of bare numbers beside this one would be no plainer.
     pub fn new(
         period: &Period,
         service: u32,
         tariff: u32,
         factor: u32,
     ) -> Result<Terms, TariffFault>
-        ensures answer { told result ≡ terms_refusal (whole_month period.now.year period.now.month period.now.hours) service tariff factor }
+        ensures answer { told result ≡ terms_refusal (is_whole period.now) service tariff factor }
         ensures fields { IfOk result (λ t. (service_number t.service ≡ service) × (t.tariff ≡ tariff) × (t.factor ≡ factor)) }
         ensures only { IfOk result (λ t. (u : Terms) → service_number u.service ≡ service → u.tariff ≡ tariff → u.factor ≡ factor → t ≡ u) }
     {
-        let Some(service) = Service::from_number(service) else {
-            return Err(TariffFault::OutsideLimits);
-        };
+        let service = Service::try_from(service)?;
         if !service.is_allowed(period) || tariff > GREATEST_TARIFF || factor > GREATEST_FACTOR {
             return Err(TariffFault::OutsideLimits);
         }

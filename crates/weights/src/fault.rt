@@ -5,9 +5,9 @@ ghost use Rattle.weights.specs.Answers.{number_of};
 #[derive(Clone, Copy, PartialEq, Eq, Debug)]
 pub enum WeightFault {
     /// The meter or the amount lies outside its limits.
-    OutOfRange,
+    OutOfRange = 3,
     /// The joined number would pass the greatest weight.
-    TooHeavy,
+    TooHeavy = 6,
 }
 
 impl WeightFault {
@@ -15,9 +15,6 @@ impl WeightFault {
     pub fn number(&self) -> u8
         ensures { result ≡ number_of self.now }
     {
-        match self {
-            WeightFault::OutOfRange => 3,
-            WeightFault::TooHeavy => 6,
-        }
+        *self as u8
     }
 }

@@ -1,9 +1,8 @@
 //! Weight sources: how the amounts of a month become one weight for each meter of a segment.
 #![tactic(auto)]
 
-mod adding;
 mod fault;
-mod greatest;
+mod joining;
 mod limits;
 mod notes;
 mod source;
@@ -11,9 +10,9 @@ mod table;
 #[cfg(test)]
 mod tests;
 
-pub use adding::Adding;
 pub use fault::WeightFault;
-pub use greatest::Greatest;
+pub use joining::{Joining, Larger, Sum};
 pub use limits::{MAX_AMOUNT, MAX_WEIGHT, METERS};
 pub use notes::note_each;
 pub use source::WeightSource;
+pub use table::{Adding, Greatest, WeightTable};

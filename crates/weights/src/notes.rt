@@ -9,6 +9,7 @@ pub fn note_each<S: WeightSource>(source: &mut S, meter: u64, amounts: &[u64]) -
     ensures noted { NotedEach (S.joining source.old) (S.weights source.old) meter amounts.now result (S.weights source.new) }
     ensures joining { S.joining source.new ≡ S.joining source.old }
 {
+    // A loop: a filter that notes what it tests would be no plainer than this.
     let mut count = 0;
     for amount in amounts {
         if source.note(meter, *amount).is_ok() {

@@ -1,6 +1,9 @@
 -- What the numbered words of a block tell of its bytes and its places.
-use Rattle.std.proofs.Common.{◌≡◌, ℕ, zero, suc, ◌^◌, ◌<◌, ◌≤◌, List, [], ◌∷◌, ◌++◌, length, get_or, refl, ap, ◌∙◌, arith}
+use Rattle.std.proofs.Common.{◌≡◌, ℕ, zero, suc, ◌^◌, ◌<◌, ◌≤◌, List, [], ◌∷◌, ◌++◌, length, get_or, sym, refl, ap, ◌∙◌, arith}
 use Rattle.std.specs.List.{flat_map, AllByRecursion}
+use Rattle.std.specs.Iterator.{Drains}
+use Rattle.words.specs.declared.window.Window.{Window}
+use Rattle.words.specs.Windows.{entries, Shown}
 use Rattle.words.specs.Bytes.{spelled, words_of, left_over, last_number, number_at, numbered, Collected}
 use Rattle.words.proofs.Spelling.{words_spelled, spelled_words}
 
@@ -23,3 +26,9 @@ collected block n items bytes small shown = record {
   written = λ words fit e. shown ∙ ap (λ bs. numbered n (words_of bs)) e ∙ ap (numbered n) (words_spelled words fit);
   places = λ k within. rw shown (number_at-is n (words_of block) k small (rw shown at within));
 }
+
+-- what a window shows until it shows nothing
+pub drained : (window : Window) (items : List (ℕ × ℕ)) → Drains Shown window items → items ≡ entries window
+drained window [] (end, (stopped, same, none)) = sym (ap entries same ∙ none.0)
+drained window (item ∷ items) (end, (stopped, (next, shown, others), last)) =
+    ap (λ rest. item ∷ rest) (drained next items (end, (stopped, others, last))) ∙ sym shown.shows

@@ -9,10 +9,10 @@ use Rattle.words.specs.Layout.{encoded, FieldsFit, Decoded}
 abbrev of_kind : ℕ → ℕ → Word
 of_kind n kind =
     cond (eqb kind 1) (Period (n / 2 ^ 16 % 2 ^ 12) (n / 2 ^ 12 % 2 ^ 4) (n % 2 ^ 10))
-    (cond (eqb kind 2) (Segment (n / 2 ^ 26 % 2 ^ 2) (n / 2 ^ 24 % 2 ^ 2) (n % 2 ^ 14))
+    (cond (eqb kind 2) (Segment (record { segment = n / 2 ^ 26 % 2 ^ 2; service = n / 2 ^ 24 % 2 ^ 2; tariff = n % 2 ^ 14 }))
     (cond (eqb kind 3) (Factor (n / 2 ^ 26 % 2 ^ 2) (n % 2 ^ 11))
     (cond (eqb kind 4) (Meter (n / 2 ^ 26 % 2 ^ 2) (n / 2 ^ 22 % 2 ^ 4) (n / 2 ^ 18 % 2 ^ 4) (n % 2 ^ 6))
-    (cond (eqb kind 5) (Select (n / 2 ^ 26 % 2 ^ 2) (n / 2 ^ 20 % 2 ^ 6) (n % 2 ^ 10))
+    (cond (eqb kind 5) (Select (record { segment = n / 2 ^ 26 % 2 ^ 2; meter = n / 2 ^ 20 % 2 ^ 6; hour = n % 2 ^ 10 }))
     (cond (eqb kind 6) (Amount (n % 2 ^ 15))
     (Carried (n / 2 ^ 20 % 2 ^ 6) (n % 2 ^ 15)))))))
 
@@ -24,12 +24,12 @@ read_back (Period year month hours) fit n e =
     let m : n / 2 ^ 12 % 2 ^ 4 ≡ month = omega arith in
     let h : n % 2 ^ 10 ≡ hours = omega arith in
     ap (of_kind n) kind ∙ cc
-read_back (Segment segment service tariff) fit n e =
+read_back (Segment given) fit n e =
     let kind : n / 2 ^ 28 ≡ 2 = omega arith in
-    let g : n / 2 ^ 26 % 2 ^ 2 ≡ segment = omega arith in
-    let s : n / 2 ^ 24 % 2 ^ 2 ≡ service = omega arith in
-    let t : n % 2 ^ 14 ≡ tariff = omega arith in
-    ap (of_kind n) kind ∙ cc
+    let g : n / 2 ^ 26 % 2 ^ 2 ≡ given.segment = omega arith in
+    let s : n / 2 ^ 24 % 2 ^ 2 ≡ given.service = omega arith in
+    let t : n % 2 ^ 14 ≡ given.tariff = omega arith in
+    ap (of_kind n) kind ∙ rw (g, s, t)
 read_back (Factor segment factor) fit n e =
     let kind : n / 2 ^ 28 ≡ 3 = omega arith in
     let g : n / 2 ^ 26 % 2 ^ 2 ≡ segment = omega arith in
@@ -42,12 +42,12 @@ read_back (Meter segment user station meter) fit n e =
     let s : n / 2 ^ 18 % 2 ^ 4 ≡ station = omega arith in
     let m : n % 2 ^ 6 ≡ meter = omega arith in
     ap (of_kind n) kind ∙ cc
-read_back (Select segment meter hour) fit n e =
+read_back (Select spot) fit n e =
     let kind : n / 2 ^ 28 ≡ 5 = omega arith in
-    let g : n / 2 ^ 26 % 2 ^ 2 ≡ segment = omega arith in
-    let m : n / 2 ^ 20 % 2 ^ 6 ≡ meter = omega arith in
-    let h : n % 2 ^ 10 ≡ hour = omega arith in
-    ap (of_kind n) kind ∙ cc
+    let g : n / 2 ^ 26 % 2 ^ 2 ≡ spot.segment = omega arith in
+    let m : n / 2 ^ 20 % 2 ^ 6 ≡ spot.meter = omega arith in
+    let h : n % 2 ^ 10 ≡ spot.hour = omega arith in
+    ap (of_kind n) kind ∙ rw (g, m, h)
 read_back (Amount amount) fit n e =
     let kind : n / 2 ^ 28 ≡ 6 = omega arith in
     let a : n % 2 ^ 15 ≡ amount = omega arith in

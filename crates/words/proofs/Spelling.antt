@@ -14,13 +14,6 @@ words_front (a ∷ b ∷ []) long = absurd (omega arith)
 words_front (a ∷ b ∷ c ∷ []) long = absurd (omega arith)
 words_front (a ∷ b ∷ c ∷ d ∷ rest) long = refl
 
-pub left_over-front : (bs : List ℕ) → 4 ≤ length bs → left_over (drop 4 bs) ≡ left_over bs
-left_over-front [] long = absurd (omega arith)
-left_over-front (a ∷ []) long = absurd (omega arith)
-left_over-front (a ∷ b ∷ []) long = absurd (omega arith)
-left_over-front (a ∷ b ∷ c ∷ []) long = absurd (omega arith)
-left_over-front (a ∷ b ∷ c ∷ d ∷ rest) long = refl
-
 pub length-left_over : (bs : List ℕ) → length (left_over bs) ≡ length bs % 4
 length-left_over [] = refl
 length-left_over (a ∷ []) = refl

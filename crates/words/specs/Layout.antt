@@ -6,20 +6,20 @@ use Rattle.words.specs.declared.word.Word.TheVariants.{Period, Segment, Factor, 
 -- A word as a number below 2 ^ 32: the kind, then each field times the power of its lowest bit.
 abbrev pub encoded : Word → ℕ
 encoded (Period year month hours) = 1 * 2 ^ 28 + year * 2 ^ 16 + month * 2 ^ 12 + hours
-encoded (Segment segment service tariff) = 2 * 2 ^ 28 + segment * 2 ^ 26 + service * 2 ^ 24 + tariff
+encoded (Segment given) = 2 * 2 ^ 28 + given.segment * 2 ^ 26 + given.service * 2 ^ 24 + given.tariff
 encoded (Factor segment factor) = 3 * 2 ^ 28 + segment * 2 ^ 26 + factor
 encoded (Meter segment user station meter) = 4 * 2 ^ 28 + segment * 2 ^ 26 + user * 2 ^ 22 + station * 2 ^ 18 + meter
-encoded (Select segment meter hour) = 5 * 2 ^ 28 + segment * 2 ^ 26 + meter * 2 ^ 20 + hour
+encoded (Select spot) = 5 * 2 ^ 28 + spot.segment * 2 ^ 26 + spot.meter * 2 ^ 20 + spot.hour
 encoded (Amount amount) = 6 * 2 ^ 28 + amount
 encoded (Carried meter amount) = 7 * 2 ^ 28 + meter * 2 ^ 20 + amount
 
 -- Each field below 2 ^ its number of bits.
 abbrev pub FieldsFit : Word → Type 0
 FieldsFit (Period year month hours) = (year < 2 ^ 12) × (month < 2 ^ 4) × (hours < 2 ^ 10)
-FieldsFit (Segment segment service tariff) = (segment < 2 ^ 2) × (service < 2 ^ 2) × (tariff < 2 ^ 14)
+FieldsFit (Segment given) = (given.segment < 2 ^ 2) × (given.service < 2 ^ 2) × (given.tariff < 2 ^ 14)
 FieldsFit (Factor segment factor) = (segment < 2 ^ 2) × (factor < 2 ^ 11)
 FieldsFit (Meter segment user station meter) = (segment < 2 ^ 2) × (user < 2 ^ 4) × (station < 2 ^ 4) × (meter < 2 ^ 6)
-FieldsFit (Select segment meter hour) = (segment < 2 ^ 2) × (meter < 2 ^ 6) × (hour < 2 ^ 10)
+FieldsFit (Select spot) = (spot.segment < 2 ^ 2) × (spot.meter < 2 ^ 6) × (spot.hour < 2 ^ 10)
 FieldsFit (Amount amount) = amount < 2 ^ 15
 FieldsFit (Carried meter amount) = (meter < 2 ^ 6) × (amount < 2 ^ 15)
 

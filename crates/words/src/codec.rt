@@ -1,9 +1,13 @@
 // Words from bits and back.
 ghost use Rattle.std.specs.Prelude.{◌≡◌, ◌+◌, ◌*◌, ◌^◌, ◌<◌, Some};
 ghost use Rattle.std.specs.Option.{SomeIff};
+ghost use Rattle.words.specs.Kinds.{number_of};
 ghost use Rattle.words.specs.Layout.{encoded, FieldsFit, Decoded};
 
+use crate::kind::Kind;
 use crate::layout::*;
+use crate::segment_word::SegmentWord;
+use crate::spot::Spot;
 use crate::word::Word;
 
 impl Word {
@@ -12,36 +16,36 @@ impl Word {
         ensures decoded { Decoded bits result }
         ensures back { (word : Word) → FieldsFit word → encoded word ≡ bits → result ≡ Some word }
     {
-        match KIND.of(bits) {
-            PERIOD if PERIOD_SPARE.of(bits) == 0 => Some(Word::Period {
+        match Kind::try_from(KIND.of(bits)).ok()? {
+            Kind::Period if PERIOD_SPARE.of(bits) == 0 => Some(Word::Period {
                 year: YEAR.of(bits),
                 month: MONTH.of(bits),
                 hours: HOURS.of(bits),
             }),
-            SEGMENT if SEGMENT_SPARE.of(bits) == 0 => Some(Word::Segment {
+            Kind::Segment if SEGMENT_SPARE.of(bits) == 0 => Some(Word::Segment(SegmentWord {
                 segment: SEGMENT_NUMBER.of(bits),
                 service: SERVICE.of(bits),
                 tariff: TARIFF.of(bits),
-            }),
-            FACTOR if FACTOR_SPARE.of(bits) == 0 => Some(Word::Factor {
+            })),
+            Kind::Factor if FACTOR_SPARE.of(bits) == 0 => Some(Word::Factor {
                 segment: SEGMENT_NUMBER.of(bits),
                 factor: PER_MILLE.of(bits),
             }),
-            METER if METER_SPARE.of(bits) == 0 => Some(Word::Meter {
+            Kind::Meter if METER_SPARE.of(bits) == 0 => Some(Word::Meter {
                 segment: SEGMENT_NUMBER.of(bits),
                 user: USER.of(bits),
                 station: STATION.of(bits),
                 meter: METER_NUMBER.of(bits),
             }),
-            SELECT if SELECT_SPARE.of(bits) == 0 => Some(Word::Select {
+            Kind::Select if SELECT_SPARE.of(bits) == 0 => Some(Word::Select(Spot {
                 segment: SEGMENT_NUMBER.of(bits),
                 meter: METER_NAMED.of(bits),
                 hour: HOUR.of(bits),
-            }),
-            AMOUNT if AMOUNT_SPARE.of(bits) == 0 => Some(Word::Amount {
+            })),
+            Kind::Amount if AMOUNT_SPARE.of(bits) == 0 => Some(Word::Amount {
                 amount: KWH.of(bits),
             }),
-            CARRIED if CARRIED_HIGH.of(bits) == 0 && CARRIED_LOW.of(bits) == 0 => Some(
+            Kind::Carried if CARRIED_HIGH.of(bits) == 0 && CARRIED_LOW.of(bits) == 0 => Some(
                 Word::Carried {
                     meter: METER_NAMED.of(bits),
                     amount: KWH.of(bits),
@@ -57,40 +61,47 @@ impl Word {
     {
         match self {
             Word::Period { year, month, hours } => {
-                let bits = YEAR.put(PERIOD << KIND.low, year)?;
+                let bits = YEAR.put(Kind::Period.bits(), year)?;
                 let bits = MONTH.put(bits, month)?;
                 HOURS.put(bits, hours)
             }
-            Word::Segment {
-                segment,
-                service,
-                tariff,
-            } => {
-                let bits = SERVICE.put(of_segment(SEGMENT, segment)?, service)?;
+            Word::Segment(
+                SegmentWord {
+                    segment,
+                    service,
+                    tariff,
+                },
+            ) => {
+                let bits = SERVICE.put(of_segment(Kind::Segment, segment)?, service)?;
                 TARIFF.put(bits, tariff)
             }
-            Word::Factor { segment, factor } => PER_MILLE.put(of_segment(FACTOR, segment)?, factor),
+            Word::Factor { segment, factor } => PER_MILLE.put(
+                of_segment(Kind::Factor, segment)?,
+                factor,
+            ),
             Word::Meter {
                 segment,
                 user,
                 station,
                 meter,
             } => {
-                let bits = USER.put(of_segment(METER, segment)?, user)?;
+                let bits = USER.put(of_segment(Kind::Meter, segment)?, user)?;
                 let bits = STATION.put(bits, station)?;
                 METER_NUMBER.put(bits, meter)
             }
-            Word::Select {
-                segment,
-                meter,
-                hour,
-            } => {
-                let bits = METER_NAMED.put(of_segment(SELECT, segment)?, meter)?;
+            Word::Select(
+                Spot {
+                    segment,
+                    meter,
+                    hour,
+                },
+            ) => {
+                let bits = METER_NAMED.put(of_segment(Kind::Select, segment)?, meter)?;
                 HOUR.put(bits, hour)
             }
-            Word::Amount { amount } => KWH.put(AMOUNT << KIND.low, amount),
+            Word::Amount { amount } => KWH.put(Kind::Amount.bits(), amount),
             Word::Carried { meter, amount } => {
-                let bits = METER_NAMED.put(CARRIED << KIND.low, meter)?;
+                let bits = METER_NAMED.put(Kind::Carried.bits(), meter)?;
                 KWH.put(bits, amount)
             }
         }
@@ -98,9 +109,8 @@ impl Word {
 }
 
 // The bits of a kind and a segment, with nothing below.
-fn of_segment(kind: u32, segment: u32) -> Option<u32>
-    requires { kind < 2 ^ 4 }
-    ensures { SomeIff result (segment < 2 ^ 2) (kind * 2 ^ 28 + segment * 2 ^ 26) }
+fn of_segment(kind: Kind, segment: u32) -> Option<u32>
+    ensures { SomeIff result (segment < 2 ^ 2) (number_of kind * 2 ^ 28 + segment * 2 ^ 26) }
 {
-    SEGMENT_NUMBER.put(kind << KIND.low, segment)
+    SEGMENT_NUMBER.put(kind.bits(), segment)
 }

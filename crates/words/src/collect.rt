@@ -9,10 +9,5 @@ use std::alloc::{AllocError, Global};
 pub fn collect_words(heap: Global, block: &[u8], first: u64) -> Result<Vec<(u64, u32)>, AllocError>
     ensures { IfOk result (λ v. Collected block.now first v.items) }
 {
-    let mut words = Vec::new(heap);
-    let mut window = Window::new(block, first);
-    while let Some(entry) = window.next() {
-        words.push(entry)?;
-    }
-    Ok(words)
+    Window::new(block, first).collect(heap)
 }

@@ -1,21 +1,7 @@
-// The kinds of words, and where the fields of each kind stand.
+// Where the fields of each kind of word stand.
 use crate::field::Field;
 
 pub(crate) const KIND: Field = Field { low: 28, width: 4 };
-
-pub(crate) const PERIOD: u32 = 1;
-
-pub(crate) const SEGMENT: u32 = 2;
-
-pub(crate) const FACTOR: u32 = 3;
-
-pub(crate) const METER: u32 = 4;
-
-pub(crate) const SELECT: u32 = 5;
-
-pub(crate) const AMOUNT: u32 = 6;
-
-pub(crate) const CARRIED: u32 = 7;
 
 // of a period
 pub(crate) const YEAR: Field = Field { low: 16, width: 12 };

@@ -1,5 +1,5 @@
 // The worked file of July 2022, fields at their limits, spare bits, and windows.
-use crate::{Window, Word, collect_words};
+use crate::{SegmentWord, Spot, Window, Word, collect_words};
 use std::process::Abort;
 use std::test::Fail;
 
@@ -7,11 +7,13 @@ use std::test::Fail;
 fn kind_and_fields(word: Word) -> [u32; 5] {
     match word {
         Word::Period { year, month, hours } => [1, year, month, hours, 0],
-        Word::Segment {
-            segment,
-            service,
-            tariff,
-        } => [2, segment, service, tariff, 0],
+        Word::Segment(
+            SegmentWord {
+                segment,
+                service,
+                tariff,
+            },
+        ) => [2, segment, service, tariff, 0],
         Word::Factor { segment, factor } => [3, segment, factor, 0, 0],
         Word::Meter {
             segment,
@@ -19,11 +21,13 @@ fn kind_and_fields(word: Word) -> [u32; 5] {
             station,
             meter,
         } => [4, segment, user, station, meter],
-        Word::Select {
-            segment,
-            meter,
-            hour,
-        } => [5, segment, meter, hour, 0],
+        Word::Select(
+            Spot {
+                segment,
+                meter,
+                hour,
+            },
+        ) => [5, segment, meter, hour, 0],
         Word::Amount { amount } => [6, amount, 0, 0, 0],
         Word::Carried { meter, amount } => [7, meter, amount, 0, 0],
     }

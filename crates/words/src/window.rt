@@ -1,7 +1,8 @@
 // A window over a block of a month file: its words, with their numbers in the whole file.
 ghost use Rattle.std.specs.Prelude.{◌≡◌, length};
+ghost use Rattle.std.specs.Iterator.{item_count};
 ghost use Rattle.words.specs.Bytes.{left_over};
-ghost use Rattle.words.specs.Windows.{Shown, InFile};
+ghost use Rattle.words.specs.Windows.{entries, Shown, InFile};
 
 #[derive(Drop)]
 pub struct Window<'a> {
@@ -22,16 +23,6 @@ impl<'a> Window<'a> {
         }
     }
 
-    // The next word with its number, or nothing where no whole word is left.
-    pub fn next(&mut self) -> Option<(u64, u32)>
-        ensures { Shown self.old result self.new }
-    {
-        let (bytes, rest) = self.rest.split_first_chunk::<4>()?;
-        let entry = (self.number, u32::from_be_bytes(*bytes));
-        *self = Window::new(rest, self.number.saturating_add(1));
-        Some(entry)
-    }
-
     // The number of the next word; at the end of a block, that of the first word of the next block.
     pub fn number(&self) -> u64
         ensures { result ≡ self.now.number }
@@ -44,5 +35,21 @@ impl<'a> Window<'a> {
         ensures { result ≡ length (left_over self.now.rest.now) }
     {
         self.rest.len() % 4
+    }
+}
+
+impl Iterator for Window<'_> {
+    type Item = (u64, u32);
+
+    ghost next_gives = { Shown };
+
+    ghost remaining = { item_count entries };
+
+    // The next word with its number, or nothing where no whole word is left.
+    fn next(&mut self) -> Option<(u64, u32)> {
+        let (bytes, rest) = self.rest.split_first_chunk::<4>()?;
+        let entry = (self.number, u32::from_be_bytes(*bytes));
+        *self = Window::new(rest, self.number.saturating_add(1));
+        Some(entry)
     }
 }

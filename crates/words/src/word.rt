@@ -1,5 +1,8 @@
 // A word of a month file, by its kind. Its fields are whatever fits their bits; the plan and the month judge the values.
-#[derive(Clone, Copy)]
+use crate::segment_word::SegmentWord;
+use crate::spot::Spot;
+
+#[derive(Clone, Copy, PartialEq, Eq, Debug)]
 pub enum Word {
     // kind 1: the month, and how many hours of it are settled
     Period {
@@ -7,12 +10,8 @@ pub enum Word {
         month: u32,
         hours: u32,
     },
-    // kind 2: a segment's service, and its tariff in thousandths of € per kWh/h per year
-    Segment {
-        segment: u32,
-        service: u32,
-        tariff: u32,
-    },
+    // kind 2: a segment's service and tariff
+    Segment(SegmentWord),
     // kind 3: the segment's factor in thousandths
     Factor {
         segment: u32,
@@ -26,11 +25,7 @@ pub enum Word {
         meter: u32,
     },
     // kind 5: the meter and the hour that the next amount is booked for
-    Select {
-        segment: u32,
-        meter: u32,
-        hour: u32,
-    },
+    Select(Spot),
     // kind 6: the offtake of an hour in kWh
     Amount {
         amount: u32,

@@ -15,17 +15,17 @@ impl<R: Read> Blocks<R> {
         R: Drop,
         ensures { IfOk result Begun }
     {
-        let bytes = vec![in heap; 0; BLOCK]?;
+        let bytes = Vec::with_capacity(heap, BLOCK)?;
         Ok(Blocks {
             input,
             bytes,
-            held: 0,
             first: 0,
             more: true,
         })
     }
 
     // Reads the next block, and tells whether there was one to read.
+    // It lends no block: what is left would be known only once the loan ends, by a longer contract.
     pub fn advance(&mut self) -> io::Result<bool>
         ensures { Advanced self.old result self.new }
     {
@@ -33,11 +33,18 @@ impl<R: Read> Blocks<R> {
             return Ok(false);
         }
         self.first = self.words();
-        self.held = 0;
         self.more = false;
-        let held = fill(&mut self.input, self.bytes.as_mut_slice())?;
-        self.held = held;
-        self.more = held == BLOCK;
-        Ok(true)
+        self.bytes.resize(BLOCK, 0).unwrap();
+        match fill(&mut self.input, self.bytes.as_mut_slice()) {
+            Ok(held) => {
+                self.bytes.truncate(held);
+                self.more = held == BLOCK;
+                Ok(true)
+            }
+            Err(error) => {
+                self.bytes.clear();
+                Err(error)
+            }
+        }
     }
 }

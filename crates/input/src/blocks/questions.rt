@@ -10,7 +10,7 @@ impl<R: Read> Blocks<R> {
     pub fn block(&self) -> &[u8]
         ensures { result.now ≡ block_of self.now }
     {
-        &self.bytes[0..self.held]
+        self.bytes.as_slice()
     }
 
     // The number of its first word in the file.
@@ -24,13 +24,13 @@ impl<R: Read> Blocks<R> {
     pub fn words(&self) -> u64
         ensures { result ≡ words_read self.now }
     {
-        (self.held as u64 / 4).saturating_add(self.first)
+        (self.bytes.len() as u64 / 4).saturating_add(self.first)
     }
 
     // How many bytes at the end of the block make no whole word.
     pub fn left_over(&self) -> usize
         ensures { result ≡ length (block_of self.now) % 4 }
     {
-        self.held % 4
+        self.bytes.len() % 4
     }
 }

@@ -26,6 +26,7 @@ impl<R: Read> FileWords<R> {
     }
 
     // The next word with its number, or nothing at the input's end. An input with more words than can be numbered fails.
+    // An Iterator must be Drop, so that each caller would have to promise `R: Drop`.
     pub fn next(&mut self) -> io::Result<Option<(u64, u32)>>
         ensures { NextGiven self.old result self.new }
     {
@@ -49,9 +50,8 @@ impl<R: Read> FileWords<R> {
         ensures blocks { self.new.blocks ≡ self.old.blocks }
     {
         let rest = self.blocks.block().get(self.given..)?;
-        let mut window = Window::new(rest, self.number);
-        let entry = window.next()?;
-        self.number = window.number();
+        let entry = Window::new(rest, self.number).next()?;
+        self.number += 1;
         self.given += 4;
         Some(entry)
     }

@@ -27,6 +27,8 @@ impl Plan {
         }
     }
 
+    // The numbers come one by one, here and in `add_segment`: the structs that hold them, `Period` and `Terms`, are made only once
+    // they are judged, and a struct of bare numbers beside each would be no plainer.
     pub fn set_period(&mut self, year: u32, month: u32, hours: u32) -> Result<(), PlanFault>
         ensures answer { Answered (contents self.old) (SetPeriod (record { year = year; month = month; hours = hours })) result (contents self.new) }
         ensures memory { result ≢ Err Memory }
@@ -34,9 +36,7 @@ impl Plan {
         if self.period.is_some() {
             return Err(PlanFault::OutOfOrder);
         }
-        let Some(period) = Period::new(year, month, hours) else {
-            return Err(PlanFault::OutsideLimits);
-        };
+        let period = Period::new(year, month, hours).ok_or(PlanFault::OutsideLimits)?;
         self.period = Some(period);
         Ok(())
     }
@@ -56,32 +56,19 @@ impl Plan {
         Ok(())
     }
 
-    pub fn add_meter(
-        &mut self,
-        segment: u32,
-        number: u32,
-        user: u32,
-        station: u32,
-    ) -> Result<(), PlanFault>
-        ensures answer { Answered (contents self.old) (AddMeter (record { segment = segment; number = number; user = user; station = station })) result (contents self.new) }
+    pub fn add_meter(&mut self, meter: Meter) -> Result<(), PlanFault>
+        ensures answer { Answered (contents self.old) (AddMeter meter) result (contents self.new) }
         ensures memory { result ≡ Err Memory → vec_capacity self.old.meters ≤ vec_len self.old.meters }
     {
-        let meter = Meter {
-            segment,
-            number,
-            user,
-            station,
-        };
         self.check_meter(&meter)?;
         self.meters.push(meter)?;
         Ok(())
     }
 
-    pub fn add_carried(&mut self, meter: u32, amount: u32) -> Result<(), PlanFault>
-        ensures answer { Answered (contents self.old) (AddCarried (record { meter = meter; amount = amount })) result (contents self.new) }
+    pub fn add_carried(&mut self, peak: CarriedPeak) -> Result<(), PlanFault>
+        ensures answer { Answered (contents self.old) (AddCarried peak) result (contents self.new) }
         ensures memory { result ≡ Err Memory → vec_capacity self.old.carried ≤ vec_len self.old.carried }
     {
-        let peak = CarriedPeak { meter, amount };
         self.check_peak(&peak)?;
         self.carried.push(peak)?;
         Ok(())

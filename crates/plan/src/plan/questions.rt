@@ -10,7 +10,8 @@ ghost use Rattle.std.specs.List.{ContainsAt as Has};
 
 use super::Plan;
 use crate::carried::CarriedPeak;
-use crate::limits::MOST_SEGMENTS;
+use crate::entry::entry_at;
+use crate::limits::{AMR, MOST_SEGMENTS};
 use crate::meter::{Holder, Meter};
 use calendar::Period;
 use tariff::Terms;
@@ -48,13 +49,7 @@ impl Plan {
         ensures only { (m : Meter) → Has (contents self.now).meters m → m.segment ≡ segment → m.number ≡ meter → result ≡ Some (holding m) }
         ensures bound { IfSome result (λ h. (h.user < most_users) × (h.station < most_stations)) }
     {
-        let meters = self.meters();
-        for other in meters {
-            if other.is_meter(segment, meter) {
-                return Some(other.holder());
-            }
-        }
-        None
+        entry_at(&self.meters, (segment, meter)).map(|found| found.holder())
     }
 
     // The peak that the meter carries over from earlier months.
@@ -63,13 +58,7 @@ impl Plan {
         ensures only { (p : CarriedPeak) → Has (contents self.now).carried p → p.meter ≡ meter → result ≡ Some p.amount }
         ensures bound { IfSome result (λ amount. (1 ≤ amount) × (amount ≤ greatest_amount)) }
     {
-        let carried = self.carried();
-        for peak in carried {
-            if peak.meter == meter {
-                return Some(peak.amount);
-            }
-        }
-        None
+        entry_at(&self.carried, (AMR, meter)).map(|found| found.amount)
     }
 
     // The meters, ascending by segment and then by number.

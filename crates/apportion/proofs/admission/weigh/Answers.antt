@@ -1,11 +1,19 @@
-use Rattle.std.proofs.Common.{◌-◌, ◌^◌, min, sum, ap, ◌∙◌, arith}
-use Rattle.std.proofs.lemmas.List.{take_all}
-use Rattle.std.proofs.lemmas.List.Sums.{sum_by_more}
+use Rattle.std.proofs.Common.{◌≡◌, ℕ, ◌+◌, ◌-◌, ◌^◌, List, min, sum, ◌∙◌, rules, arith}
+use Rattle.std.specs.List.{fold}
+use Rattle.std.proofs.iter.runs.Made.{chains}
+use Rattle.std.proofs.lemmas.List.Folds.{fold_along}
 use Rattle.apportion.proofs.admission.weigh.Goals as goal
 
-pub loop-weight-preserved : goal.loop-weight-preserved
-loop-weight-preserved c =
-    omega (arith, c.saturating_add-whole.ensures, sum_by_more (λ x. x) c.args.weights.now c.loop-weight.weight-index 0 c.loop-weight-test.true)
+abbrev most : ℕ
+most = 2 ^ 64 - 1
+
+-- a sum that stops at a number is the sum, or that number where the sum passes it
+fold_min : (weights : List ℕ) → fold (λ whole weight. min (whole + weight) most) 0 weights ≡ min (sum weights) most
+fold_min weights =
+    fold_along (λ whole weight. min (whole + weight) most) (λ whole weight. whole + weight) (λ stopped whole. stopped ≡ min whole most)
+    (λ stopped whole weight same. omega arith) 0 0 weights (omega arith)
 
 pub returns : goal.returns
-returns c = c.loop-weight.invariant ∙ ap (λ ws. min (sum ws) (2 ^ 64 - 1)) (take_all _ _ c.loop-weight-test.false)
+returns c =
+    let folded : c.fold.result ≡ fold (λ whole weight. min (whole + weight) most) 0 c.args.weights.now = search (rules, chains) in
+    folded ∙ fold_min c.args.weights.now

@@ -1,5 +1,4 @@
 use Rattle.std.proofs.Common.{◌≡◌, [], ◌++◌, get_or, take, string_bytes, codes, decimal, sym, ap, ◌∙◌, append_assoc, arith}
-use Rattle.std.proofs.lemmas.List.{take_all}
 use Rattle.calculator.specs.Replies.{spaced}
 use Rattle.calculator.proofs.Words.{spaced_more, spaced_one}
 use Rattle.calculator.proofs.numbers.spaced_line.Goals as goal
@@ -8,22 +7,17 @@ use Rattle.calculator.proofs.numbers.spaced_line.Goals.{then-i-gt0+in_ok-push_st
 pub loop-i-preserved : goal.loop-i-preserved
 loop-i-preserved c =
     let numbers = c.args.numbers.now in
-    let written = c.as_str.ensures.value ∙ c.in_ok-to_string.ensures.ok in
-    let pushed : string_bytes c.push_str-in-loop-i.new.self ≡ string_bytes c.if-i-gt0.line ++ decimal (get_or numbers c.loop-i.i 0) =
-    c.in_ok-push_str-2.ensures.bytes ∙ ap (λ bs. string_bytes c.if-i-gt0.line ++ bs) written in
+    let written : string_bytes c.write.new.self ≡ string_bytes c.if-i-gt0.line ++ decimal (get_or numbers c.loop-i.i 0) = c.in_ok-write.ensures.bytes in
     elim c.if-i-gt0.branch [
       | then-i-gt0+in_ok-push_str w ↦
           let blank : string_bytes c.if-i-gt0.line ≡ spaced (take c.loop-i.i numbers) ++ codes " " =
           ap string_bytes w.line-is ∙ w.in_ok-push_str.ensures.bytes ∙ ap (λ bs. bs ++ codes " ") c.loop-i.invariant in
-          pushed ∙ ap (λ bs. bs ++ decimal (get_or numbers c.loop-i.i 0)) blank
+          written ∙ ap (λ bs. bs ++ decimal (get_or numbers c.loop-i.i 0)) blank
           ∙ append_assoc (spaced (take c.loop-i.i numbers)) (codes " ") (decimal (get_or numbers c.loop-i.i 0))
           ∙ sym (spaced_more numbers c.loop-i.i c.loop-i-test.true w.if-i-gt0.true)
       | else-i-gt0 w ↦
           let first : c.loop-i.i ≡ 0 = omega arith in
           let same : string_bytes c.if-i-gt0.line ≡ [] = ap string_bytes w.line-is ∙ c.loop-i.invariant ∙ ap (λ i. spaced (take i numbers)) first in
-          pushed ∙ ap (λ bs. bs ++ decimal (get_or numbers c.loop-i.i 0)) same
+          written ∙ ap (λ bs. bs ++ decimal (get_or numbers c.loop-i.i 0)) same
           ∙ sym (spaced_one numbers c.loop-i.i c.loop-i-test.true first)
     ]
-
-pub returns : goal.returns
-returns c = c.loop-i.invariant ∙ ap spaced (take_all c.loop-i.i c.args.numbers.now c.loop-i-test.false)

@@ -1,7 +1,8 @@
-use Rattle.std.proofs.Common.{◌≡◌, ◌^◌, ◌<◌, is_err, None, Ok, Err, vec_items, sym, ap, ◌∙◌, subst, MatchResult}
+use Rattle.std.proofs.Common.{◌≡◌, ◌^◌, ◌<◌, is_err, None, Ok, Err, vec_items, sym, ap, subst, MatchResult}
 use Rattle.std.specs.List.{AllByRecursion}
 use Rattle.std.proofs.ByRecursion.{All-from_get_or}
-use Rattle.std.proofs.lemmas.Result.{err_from_is_err_and, IfOk-from_err}
+use Rattle.monthfile.proofs.Failing.{err_is}
+use Rattle.std.proofs.lemmas.Result.{IfOk-from_err}
 use Rattle.plan.specs.OfPlan.{contents}
 use Rattle.monthfile.specs.Faults.{told}
 use Rattle.monthfile.specs.View.{standing_of}
@@ -16,8 +17,7 @@ returns-in_err-read_block c =
     let later = vec_items c.read_block.new.bookings in
     let end = standing_of c.read_block.new.self in
     let block = from_start bytes (standing_of c.new-reader.result) (vec_items c.new-bookings.result) (Err fault) later end c.new-reader.ensures c.new-bookings.ensures.items c.in_err-read_block.ensures.read in
-    let p = err_from_is_err_and c.from_residual.result c.from_residual.ensures.1 in
-    let e = p.1 ∙ ap Err p.2 in
+    let e = err_is c.from_residual.result fault c.from_residual.ensures.1 in
     record {
       file = IfOk-from_err c.from_residual.result _ (ap is_err e);
       back = λ q bs f is. subst (λ r. MatchResult r (λ given. (contents given.0 ≡ q) × (vec_items given.1 ≡ bs)) (λ x. told x ≡ None)) (sym e) (stopped_back bytes fault later end block q bs f is);
@@ -32,8 +32,7 @@ returns-in_err-plan c =
     let later = vec_items c.read_block.new.bookings in
     let end = standing_of c.read_block.new.self in
     let block = from_start bytes (standing_of c.new-reader.result) (vec_items c.new-bookings.result) (Ok tt) later end c.new-reader.ensures c.new-bookings.ensures.items c.in_ok-read_block.ensures.read in
-    let p = err_from_is_err_and c.from_residual-in_err-plan.result c.from_residual-in_err-plan.ensures.1 in
-    let e = p.1 ∙ ap Err p.2 in
+    let e = err_is c.from_residual-in_err-plan.result fault c.from_residual-in_err-plan.ensures.1 in
     let tells = c.in_err-plan.ensures in
     record {
       file = IfOk-from_err c.from_residual-in_err-plan.result _ (ap is_err e);

@@ -5,7 +5,7 @@ use Rattle.monthwriter.proofs.checks.file_length.Goals as goal
 
 pub returns : goal.returns
 returns c =
-    let file = length-file (contents c.args.plan.now) c.args.bookings.now c.meters.ensures.well_made c.requires in
+    let file = length-file (contents c.args.plan.now) c.args.bookings.now c.meters.ensures.well_made c.requires.full in
     let meters = ap length c.meters.ensures.answer in
     let peaks = ap length c.carried.ensures.answer in
     omega (arith, file, meters, peaks, c.count_words.ensures.count)

@@ -1,16 +1,25 @@
-use Rattle.std.proofs.Common.{◌≡◌, [], ◌∷◌, subst}
+use Rattle.std.proofs.Common.{◌≡◌, ℕ, [], ◌∷◌}
 use Rattle.tariff.specs.Services.{service_number}
+use Rattle.tariff.specs.declared.terms.Terms.{Terms}
+use Rattle.plan.specs.Calls.{AddSegment}
+use Rattle.plan.specs.View.{segment_numbers}
 use Rattle.words.specs.declared.word.Word.TheVariants.{Segment, Factor}
-use Rattle.monthwriter.specs.Placing.{WordsPut}
-use Rattle.monthwriter.proofs.Putting.{put_then}
+use Rattle.monthfile.specs.File.{call_words}
+use Rattle.monthwriter.proofs.Putting.{at_start, one_step}
 use Rattle.monthwriter.proofs.head.put_segment.Goals as goal
+
+-- the two words of a segment, by the numbers that its terms have
+parts : (segment : ℕ) (t : Terms) (service tariff factor : ℕ) → service ≡ service_number t.service → tariff ≡ t.tariff → factor ≡ t.factor
+    → call_words (AddSegment segment (segment_numbers t))
+    ≡ Segment (record { segment = segment; service = service; tariff = tariff }) ∷ (Factor segment factor ∷ [])
+parts segment t service tariff factor s p f = cc
+
+pub put-requires-2 : goal.put-requires-2
+put-requires-2 c =
+    let words = parts c.args.segment c.args.terms.now c.from.result c.tariff.result c.factor.result (cc) (cc) (cc) in
+    (one_step (at_start c.requires) words c.put.ensures).room
 
 pub returns : goal.returns
 returns c =
-    let segment = c.args.segment in
-    let terms = c.args.terms.now in
-    let first : Segment segment c.number.result c.tariff.result ≡ Segment segment (service_number terms.service) terms.tariff = cc in
-    let second : Factor segment c.factor.result ≡ Factor segment terms.factor = cc in
-    put_then c.requires
-    (subst (λ w. WordsPut c.args.at (w ∷ []) c.args.out.now c.put_word-at.result c.put_word-at.new.out) first c.put_word-at.ensures)
-    (subst (λ w. WordsPut c.put_word-at.result (w ∷ []) c.put_word-at.new.out c.put_word.result c.put_word.new.out) second c.put_word.ensures)
+    let words = parts c.args.segment c.args.terms.now c.from.result c.tariff.result c.factor.result (cc) (cc) (cc) in
+    (one_step (at_start c.requires) words c.put.ensures).goes c.put-2.new.self c.put-2.ensures

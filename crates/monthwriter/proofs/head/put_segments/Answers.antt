@@ -3,24 +3,15 @@ use Rattle.std.specs.List.{flat_map}
 use Rattle.std.proofs.lemmas.List.{at_drop_all}
 use Rattle.plan.specs.Calls.{AddSegment}
 use Rattle.plan.specs.OfPlan.{contents}
-use Rattle.plan.specs.Questions.{terms_of}
 use Rattle.plan.specs.View.{segment_numbers}
 use Rattle.plan.specs.WellMade.{segment_calls}
-use Rattle.plan.proofs.Complete.{complete}
 use Rattle.monthfile.specs.File.{call_words}
-use Rattle.monthwriter.proofs.Present.{full_length, some_behind, segment_parts}
+use Rattle.monthwriter.proofs.Present.{full_length, segment_parts}
 use Rattle.monthwriter.proofs.Putting.{room_now, one_step, at_end}
 use Rattle.monthwriter.proofs.head.put_segments.Goals as goal
 
-pub unwrap-terms-requires : goal.unwrap-terms-requires
-unwrap-terms-requires c =
-    let plan = contents c.args.plan.now in
-    let i = c.loop-segment.segment in
-    some_behind segment_numbers c.terms.result (terms_of plan i) c.terms.ensures
-    ((complete plan c.args.plan.now.well_made c.requires.full).1 i c.loop-segment-test.true)
-
-pub put_segment-at-requires : goal.put_segment-at-requires
-put_segment-at-requires c =
+pub put_segment-requires : goal.put_segment-requires
+put_segment-requires c =
     let plan = contents c.args.plan.now in
     let i = c.loop-segment.segment in
     let t = c.unwrap-terms.result in
@@ -31,7 +22,7 @@ pub loop-segment-preserved : goal.loop-segment-preserved
 loop-segment-preserved c =
     one_step c.loop-segment.invariant
     (segment_parts (contents c.args.plan.now) c.loop-segment.segment c.terms.result c.unwrap-terms.result c.requires.full c.loop-segment-test.true c.terms.ensures c.unwrap-terms.ensures)
-    c.put_segment-at.ensures
+    c.put_segment.ensures
 
 pub returns : goal.returns
 returns c =

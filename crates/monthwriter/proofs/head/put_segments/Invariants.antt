@@ -8,5 +8,5 @@ use Rattle.monthwriter.proofs.head.put_segments.Given as goal
 
 abbrev pub invariant-loop-segment : goal.invariant-loop-segment
 invariant-loop-segment l =
-    OnTheWay l.initial.at (flat_map call_words (segment_calls 0 (contents l.plan).segments)) l.initial.out
-    l.at (flat_map call_words (segment_calls l.segment (drop l.segment (contents l.plan).segments))) l.out
+    OnTheWay l.initial.out (flat_map call_words (segment_calls 0 (contents l.plan).segments))
+    (flat_map call_words (segment_calls l.segment (drop l.segment (contents l.plan).segments))) l.out

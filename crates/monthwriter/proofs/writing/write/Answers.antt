@@ -1,29 +1,43 @@
-use Rattle.std.proofs.Common.{◌≡◌, length, is_err, Some, sym, refl, ap, subst}
-use Rattle.std.proofs.lemmas.Result.{err_from_is_err_and, IfOk-from_err}
+use Rattle.std.proofs.Common.{◌≡◌, ℕ, List, ◌++◌, length, take, drop, None, Ok, sym, ap, ◌∙◌, subst, rules, arith}
+use Rattle.plan.specs.Contents.{Contents}
 use Rattle.plan.specs.OfPlan.{contents}
-use Rattle.monthfile.specs.File.{file_words}
+use Rattle.plan.specs.declared.booking.Booking.{Booking}
+use Rattle.monthfile.specs.File.{file_of, file_words}
+use Rattle.monthfile.specs.Inverse.{Fileable}
 use Rattle.monthfile.proofs.Entire.{file_and_reading}
-use Rattle.monthwriter.specs.Refusals.{number_of, write_refusal}
+use Rattle.monthwriter.specs.declared.placing.Output.{Output}
+use Rattle.monthwriter.specs.Placing.{WordsPut}
+use Rattle.monthwriter.specs.Refusals.{write_refusal}
 use Rattle.monthwriter.specs.Written.{FileWritten, ReadsBack}
+use Rattle.monthwriter.proofs.Filed.{file_room}
 use Rattle.monthwriter.proofs.Fitting.{all_held}
 use Rattle.monthwriter.proofs.Granted.{granted}
 use Rattle.monthwriter.proofs.Putting.{in_front}
 use Rattle.monthwriter.proofs.Readable.{file_reads_back}
 use Rattle.monthwriter.proofs.writing.write.Goals as goal
 
-pub returns-in_err-check : goal.returns-in_err-check
-returns-in_err-check c =
+-- what the caller's memory is left as
+written : (plan : Contents) (bs : List Booking) {memory : List ℕ} {start end : Output} {size : ℕ} {left : List ℕ} → Fileable plan bs
+    → write_refusal plan bs (length memory) ≡ None → start.next ≡ 0 → start.memory.now ≡ memory → WordsPut start (file_words plan bs) end
+    → size ≡ end.next → left ≡ end.memory.now
+    → FileWritten plan bs memory (Ok size) left × ReadsBack plan bs (take size left)
+written plan bs {memory} {start} {end} {size} {left} fileable none front untouched put long is =
+    let file = in_front (file_words plan bs) start end front put in
+    let stands : left ≡ file_of plan bs ++ drop size memory =
+    is ∙ file.1 ∙ ap (λ k. file_of plan bs ++ drop k start.memory.now) (sym long) ∙ ap (λ m. file_of plan bs ++ drop size m) untouched in
+    let front : take size left ≡ file_of plan bs = ap (λ k. take k left) long ∙ ap (take end.next) is ∙ file.2 in
+    ((none, long ∙ file.0, stands), subst (ReadsBack plan bs) (sym front) (file_reads_back plan bs fileable))
+
+pub returns-in_err-check-clause-inverse : goal.returns-in_err-check-clause-inverse
+returns-in_err-check-clause-inverse c = file_and_reading
+
+pub put_file-requires-clause-room : goal.put_file-requires-clause-room
+put_file-requires-clause-room c =
     let plan = contents c.args.plan.now in
     let bs = c.args.bookings.now in
-    let out = c.args.out.now in
-    let p = err_from_is_err_and c.from_residual.result c.from_residual.ensures.1 in
-    record {
-      answer =
-          subst (λ r. FileWritten plan bs out r out) (sym p.1)
-          (subst (λ fault. write_refusal plan bs (length out) ≡ Some (number_of fault)) (sym p.2) c.in_err-check.ensures, refl);
-      back = IfOk-from_err c.from_residual.result _ (ap is_err p.1);
-      inverse = file_and_reading;
-    }
+    let grants = granted plan bs (length c.args.out.now) c.in_ok-check.ensures in
+    file_room plan bs c.new-file.result c.args.plan.now.well_made grants.held c.new-file.ensures.front
+    (omega (arith, grants.long, ap length c.new-file.ensures.untouched))
 
 pub returns : goal.returns
 returns c =
@@ -31,11 +45,6 @@ returns c =
     let bs = c.args.bookings.now in
     let none = c.in_ok-check.ensures in
     let grants = granted plan bs (length c.args.out.now) none in
-    let file = in_front (file_words plan bs) c.args.out.now c.put_file.result c.put_file.new.out c.put_file.ensures in
-    record {
-      answer = (none, file.0, file.1);
-      back =
-          subst (ReadsBack plan bs) (sym file.2)
-          (file_reads_back plan bs (record { made = c.args.plan.now.well_made; full = grants.0; held = all_held bs grants.1 }));
-      inverse = file_and_reading;
-    }
+    let fileable : Fileable plan bs = record { made = c.args.plan.now.well_made; full = grants.full; held = all_held bs grants.held } in
+    let file = written plan bs fileable none c.new-file.ensures.front (search rules) c.put_file.ensures c.length.ensures (search rules) in
+    record { answer = file.0; back = file.1; inverse = file_and_reading }

@@ -29,8 +29,8 @@ loop-amount-preserved g c =
       next.1 ∙ sym (at_drop_more (weights_after join weights meter) amounts i 0 inside) ∙ inv.3,
     )
 
-pub returns : goal.returns
-returns g c =
+pub returns-clause-noted : goal.returns-clause-noted
+returns-clause-noted g c =
     let source = c.args.source.now in
     let join = g.S.WeightSource.joining source in
     let weights = g.S.WeightSource.weights c.loop-amount.source in
@@ -40,10 +40,7 @@ returns g c =
     let laws = g.met.S.WeightSource in
     let inv = c.loop-amount.invariant in
     let past = c.loop-amount-test.false in
-    record {
-      noted = noted_each join (g.S.WeightSource.weights source) meter (laws.swaps source) (laws.keeps source)
-          (laws.covers source) amounts c.loop-amount.count weights
-          (omega (arith, inv.2, at_drop_all (λ l. length (accepted_at join weights meter l)) amounts i past))
-          (cc (set-get_or weights meter 0, at_drop_all (weights_after join weights meter) amounts i past));
-      joining = inv.0;
-    }
+    noted_each join (g.S.WeightSource.weights source) meter (laws.swaps source) (laws.keeps source)
+    (laws.covers source) amounts c.loop-amount.count weights
+    (omega (arith, inv.2, at_drop_all (λ l. length (accepted_at join weights meter l)) amounts i past))
+    (cc (set-get_or weights meter 0, at_drop_all (weights_after join weights meter) amounts i past))

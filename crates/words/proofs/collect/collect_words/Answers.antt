@@ -1,20 +1,18 @@
-use Rattle.std.proofs.Common.{[], ◌∷◌, vec_items, arith}
-use Rattle.std.proofs.lemmas.List.{append_assoc, append-nil}
+use Rattle.std.proofs.Common.{vec_items, arith}
 use Rattle.std.proofs.ByRecursion.{All-from_get_or}
-use Rattle.words.specs.Windows.{entries}
-use Rattle.words.proofs.Collecting.{collected}
+use Rattle.std.proofs.lemmas.Result.{IfOk-weaker}
+use Rattle.words.proofs.Collecting.{collected, drained}
 use Rattle.words.proofs.collect.collect_words.Goals as goal
-
-pub loop-entry-preserved : goal.loop-entry-preserved
-loop-entry-preserved c =
-    let shows = c.in-Some.ensures.shows in
-    let pushed = c.in_ok-push.ensures.items in
-    let joins = append_assoc (vec_items c.loop-entry.words) (c.in-Some.entry ∷ []) (entries c.next.new.self) in
-    cc
 
 pub returns : goal.returns
 returns c =
-    let none = c.in_default.ensures.0 in
-    let all = append-nil (vec_items c.loop-entry.words) in
-    collected c.args.block.now c.args.first (vec_items c.loop-entry.words)
-    (All-from_get_or _ c.args.block.now 0 (λ k _. (c.type_inv.block k).fits)) (omega arith) (cc)
+    let bytes = c.new.ensures.bytes in
+    let number = c.new.ensures.number in
+    IfOk-weaker c.collect.result _ _
+    (λ words ran.
+    let none = ran.1.2 tt in
+    let items = ran.2.0 in
+    let shown = drained c.new.result ran.0 (none.0, (ran.1.0, ran.1.1, none.1)) in
+    collected c.args.block.now c.args.first (vec_items words)
+    (All-from_get_or _ c.args.block.now 0 (λ k _. (c.type_inv.block k).fits)) (omega arith) cc)
+    c.collect.ensures.ran

@@ -1,10 +1,8 @@
-use Rattle.std.proofs.Common.{◌^◌, ◌<◌, ◌≤◌, length, get_or, ap, ◌∙◌, arith, rules}
+use Rattle.std.proofs.Common.{◌^◌, ◌<◌, ◌≤◌, length, get_or, ◌∙◌, arith, rules}
 use lib.Count.{ones}
 use Rattle.std.proofs.lemmas.Nat.{ones-le}
-use Rattle.std.proofs.lemmas.List.{take_all}
 use Rattle.std.proofs.lemmas.List.Sums.{sum_by_more}
 use Rattle.book.specs.Limits.{word_hours}
-use Rattle.book.specs.Marks.{ones_of}
 use Rattle.book.proofs.Counting.{marked_below-is, ones_word}
 use Rattle.book.proofs.row.Row.count.Goals as goal
 
@@ -14,9 +12,6 @@ word_fits c = search rules
 -- a word has at most 64 ones
 few : (c : goal.After-from-count) → c.from-count.result ≤ word_hours
 few c = omega (arith, ones-le word_hours (get_or c.args.self.now.marks c.loop-word.word-index 0) (word_fits c))
-
-pub overflow_add-count : goal.overflow_add-count
-overflow_add-count c = omega (arith, few c)
 
 pub loop-word-preserved : goal.loop-word-preserved
 loop-word-preserved c =
@@ -28,12 +23,9 @@ loop-word-preserved c =
       omega (arith, ones_word words i (word_fits c)),
     )
 
-pub returns : goal.returns
-returns c =
+pub returns-clause-hours : goal.returns-clause-hours
+returns-clause-hours c =
     let words = c.args.self.now.marks in
     let i = c.loop-word.word-index in
     let past : length words ≤ i = omega (arith, c.args.self.now.sized) in
-    record {
-      ones = c.loop-word.invariant.0 ∙ ap ones_of (take_all i words past);
-      hours = λ hours none. c.loop-word.invariant.2 ∙ marked_below-is words i hours past none;
-    }
+    λ hours none. c.loop-word.invariant.2 ∙ marked_below-is words i hours past none

@@ -1,38 +1,38 @@
-use Rattle.std.proofs.Common.{ℕ, ◌+◌, ◌<◌, map, length, set, vec_items, sym, refl, ap, ◌∙◌, arith}
-use Rattle.std.proofs.lemmas.List.{get_or_read_under, map-set}
+use Rattle.std.proofs.Common.{◌≡◌, ◌<◌, [], get_or, map, length, set, sym, ap, ◌∙◌, arith}
+use Rattle.std.proofs.lemmas.List.{map-set}
+use Rattle.book.specs.declared.row.Row.{Row}
 use Rattle.book.proofs.Lookup.{words_are_read, words_set}
 use Rattle.book.proofs.tables.Tables.enter.Goals as goal
+use Rattle.book.proofs.tables.Tables.enter.Goals.{After-mark}
 
-inside : (c : goal.After-row) → c.args.meter < length (vec_items c.args.self.now.rows)
-inside c = omega (arith, c.args.self.now.rows.ok.0, c.requires.meter_within)
+inside : (c : After-mark) → c.args.meter < length c.args.self.now.rows.value
+inside c = omega (arith, c.args.self.now.meters)
 
-pub mark-requires : goal.mark-requires
-mark-requires c = record {
-  within = c.requires.hour_within.0;
-  free = rw (← words_are_read (vec_items c.args.self.now.rows) c.args.meter c.row.result.now (inside c) c.row.ensures.value) c.requires.free;
-}
+-- the words of the meter's row before and after
+before : (c : After-mark) →
+    get_or (map (λ r. r.marks) c.args.self.now.rows.value) c.args.meter []
+    ≡ (get_or c.deref_mut.result.now c.args.meter c.index-deref_mut-meter.result).marks
+before c =
+    words_are_read c.args.self.now.rows.value c.args.meter c.index-deref_mut-meter.result (inside c)
+    (rw c.deref_mut.ensures.value at c.index-deref_mut-meter.is)
+    ∙ ap (λ (r : Row). r.marks) c.index-deref_mut-meter.is
 
-pub overflow_add-index_mut : goal.overflow_add-index_mut
-overflow_add-index_mut c =
-    let sums = c.args.self.now.sums in
-    let read = get_or_read_under (vec_items sums) c.args.hour sums.len _ 0 c.index_mut.ensures.value (omega arith) sums.ok.0
-    in omega (arith, c.requires.fits)
+after : (c : After-mark) → get_or (map (λ r. r.marks) (set c.args.self.now.rows.value c.args.meter c.mark.new.self)) c.args.meter [] ≡ c.mark.new.self.marks
+after c = words_set c.args.self.now.rows.value c.args.meter c.mark.new.self (inside c)
 
-pub returns : goal.returns
-returns c =
-    let rows = vec_items c.args.self.now.rows in
-    let sums = c.args.self.now.sums in
-    let meter = c.args.meter in
-    let hour = c.args.hour in
+pub returns-clause-row : goal.returns-clause-row
+returns-clause-row c =
+    let rows = c.args.self.now.rows.value in
     let row = c.mark.new.self in
-    let within : meter < length rows = omega (arith, c.args.self.now.rows.ok.0, c.requires.meter_within) in
-    let before = words_are_read rows meter c.row.result.now within c.row.ensures.value in
-    let after = words_set rows meter row within in
-    let read = get_or_read_under (vec_items sums) hour sums.len _ 0 c.index_mut.ensures.value (omega arith) sums.ok.0
-    in record {
-      row = map-set (λ r. r.marks) rows meter row ∙ ap (set (map (λ r. r.marks) rows) meter) (sym after);
-      hours = λ h. rw (after, before) (c.mark.ensures.hours h);
-      ones = rw (after, before) c.mark.ensures.ones;
-      sums = ap (λ (n : ℕ). set (vec_items sums) hour (n + c.args.amount)) read;
-      sized = (refl, refl);
-    }
+    rw c.deref_mut.ensures.value
+    (map-set (λ r. r.marks) rows c.args.meter row ∙ ap (set (map (λ r. r.marks) rows) c.args.meter) (sym (after (goal.at.returns-clause-row c).After-mark)))
+
+pub returns-clause-hours : goal.returns-clause-hours
+returns-clause-hours c =
+    let w = (goal.at.returns-clause-hours c).After-mark in
+    λ h. rw (c.deref_mut.ensures.value, after w, before w) (c.mark.ensures.hours h)
+
+pub returns-clause-ones : goal.returns-clause-ones
+returns-clause-ones c =
+    let w = (goal.at.returns-clause-ones c).After-mark in
+    rw (c.deref_mut.ensures.value, after w, before w) c.mark.ensures.ones

@@ -1,13 +1,11 @@
 -- Each turn answers one call more; the sources' joinings swap, so the order of bookings makes no difference.
-use Rattle.std.proofs.Common.{ℕ, ◌+◌, List, take, vec_items, sym, refl, subst, arith}
-use Rattle.std.proofs.lemmas.List.{take_all}
-use Rattle.std.proofs.lemmas.Result.{err_from_is_err_and}
+use Rattle.std.proofs.Common.{ℕ, ◌+◌, List, take, vec_items, sym, subst, arith, Result}
 use Rattle.weights.specs.Joining.{Swaps}
-use Rattle.month.specs.Calls.{AnswersEach, accepted_from}
+use Rattle.month.specs.Calls.{AnswersEach}
 use Rattle.month.specs.OfMonth.{book_joins, state_of}
-use Rattle.month.specs.Stands.{Stands}
 use Rattle.month.specs.declared.call.Answer.{Answer}
 use Rattle.month.specs.declared.call.Call.{Call}
+use Rattle.month.specs.declared.fault.BookingFault.{BookingFault}
 use Rattle.month.specs.declared.call.Call.TheVariants.{Book}
 use Rattle.month.specs.declared.four.Four.{Four}
 use Rattle.month.proofs.Rearranging.{rearranges}
@@ -20,23 +18,16 @@ use Rattle.month.proofs.run.Open+Month+A+B+C+D.run.Goals as goal
 swaps_each : (g : given.Over)
     (four : Four g.row.A.Denot g.row.B.Denot g.row.C.Denot g.row.D.Denot g.A.WeightSource g.B.WeightSource g.C.WeightSource g.D.WeightSource)
     (segment : ℕ) →
-    Swaps (book_joins g.A.WeightSource g.B.WeightSource g.C.WeightSource g.D.WeightSource four segment)
+    Swaps (book_joins four segment)
 swaps_each g four segment =
     by_segment-each Swaps (g.A.WeightSource.joining four.amr.source) (g.B.WeightSource.joining four.s30.source)
     (g.C.WeightSource.joining four.mrc.source) (g.D.WeightSource.joining four.eav.source)
     (g.met.A.WeightSource.swaps four.amr.source) (g.met.B.WeightSource.swaps four.s30.source)
     (g.met.C.WeightSource.swaps four.mrc.source) (g.met.D.WeightSource.swaps four.eav.source) segment
 
-pub returns-in_err-answers : goal.returns-in_err-answers
-returns-in_err-answers g c =
-    let r = err_from_is_err_and c.from_residual.result c.from_residual.ensures.1 in
-    rw r.1 (
-    record {
-      ran = tt;
-      memory = refl;
-      rearranged = λ terms bookings s. rearranges terms bookings (state_of g.A.WeightSource g.B.WeightSource g.C.WeightSource g.D.WeightSource c.args.self.now.0) s (swaps_each g c.args.self.now.0.books);
-    }
-    )
+pub returns-in_err-answers-clause-rearranged : goal.returns-in_err-answers-clause-rearranged
+returns-in_err-answers-clause-rearranged g c = λ terms bookings s.
+    rearranges terms bookings (state_of c.args.self.now.0) s (swaps_each g c.args.self.now.0.books)
 
 pub loop-call-preserved : goal.loop-call-preserved
 loop-call-preserved g c =
@@ -46,23 +37,15 @@ loop-call-preserved g c =
       λ terms bookings s.
           let next = next_call terms bookings c.args.calls.now c.loop-call.call-index d (vec_items c.loop-call.answers)
           c.answer.result
-          (state_of g.A.WeightSource g.B.WeightSource g.C.WeightSource g.D.WeightSource c.loop-call.self.0)
-          (state_of g.A.WeightSource g.B.WeightSource g.C.WeightSource g.D.WeightSource c.answer.new.self.0)
+          (state_of c.loop-call.self.0)
+          (state_of c.answer.new.self.0)
           c.loop-call-test.true (inv.0 terms bookings s) (c.answer.ensures terms)
           in
-          (next.0, subst (λ (l : List Answer). AnswersEach terms bookings (take (c.loop-call.call-index + 1) c.args.calls.now) l) (sym items) next.1),
+          (next.0, subst (λ (l : List (Result Answer BookingFault)). AnswersEach terms bookings (take (c.loop-call.call-index + 1) c.args.calls.now) l) (sym items) next.1),
       omega (arith, c.push_reserved.ensures.len, inv.1),
       omega (arith, c.push_reserved.ensures.capacity, inv.2),
     )
 
-pub returns : goal.returns
-returns g c =
-    let whole = take_all c.loop-call.call-index c.args.calls.now c.loop-call-test.false in
-    record {
-      ran = λ terms bookings s.
-          subst (λ (cs : List Call).
-          Stands terms (accepted_from terms bookings cs) (state_of g.A.WeightSource g.B.WeightSource g.C.WeightSource g.D.WeightSource c.loop-call.self.0)
-          × AnswersEach terms bookings cs (vec_items c.loop-call.answers)) whole (c.loop-call.invariant.0 terms bookings s);
-      memory = tt;
-      rearranged = λ terms bookings s. rearranges terms bookings (state_of g.A.WeightSource g.B.WeightSource g.C.WeightSource g.D.WeightSource c.args.self.now.0) s (swaps_each g c.args.self.now.0.books);
-    }
+pub returns-clause-rearranged : goal.returns-clause-rearranged
+returns-clause-rearranged g c = λ terms bookings s.
+    rearranges terms bookings (state_of c.args.self.now.0) s (swaps_each g c.args.self.now.0.books)

@@ -10,8 +10,8 @@ use Rattle.month.proofs.run.Open+Month+A+B+C+D.run.Given as goal
 abbrev pub invariant-loop-call : goal.invariant-loop-call
 invariant-loop-call g l =
     ((terms : Terms) (bookings : List Booking) →
-    Stands terms bookings (state_of g.A.WeightSource g.B.WeightSource g.C.WeightSource g.D.WeightSource l.initial.self.0) →
-    Stands terms (accepted_from terms bookings (take l.call-index l.calls)) (state_of g.A.WeightSource g.B.WeightSource g.C.WeightSource g.D.WeightSource l.self.0)
+    Stands terms bookings (state_of l.initial.self.0) →
+    Stands terms (accepted_from terms bookings (take l.call-index l.calls)) (state_of l.self.0)
     × AnswersEach terms bookings (take l.call-index l.calls) (vec_items l.answers))
     × (vec_len l.answers ≡ l.call-index)
     × (length l.calls ≤ vec_capacity l.answers)

@@ -1,4 +1,4 @@
-use Rattle.std.proofs.Common.{length, vec_items}
+use Rattle.std.proofs.Common.{vec_items}
 use Rattle.words.specs.Bytes.{words_of}
 use Rattle.monthfile.specs.View.{standing_of}
 use Rattle.monthfile.proofs.OneByOne.{SoFar}
@@ -6,8 +6,5 @@ use Rattle.monthfile.proofs.reader.Reader.read_block.Given as goal
 
 abbrev pub invariant-loop-place : goal.invariant-loop-place
 invariant-loop-place l =
-    SoFar (standing_of l.initial.self) l.first (words_of l.block) (vec_items l.initial.bookings) (words_of l.window.rest.now)
-    l.window.number (vec_items l.bookings) (standing_of l.self)
-
-abbrev pub decreases-loop-place : goal.decreases-loop-place
-decreases-loop-place l = length l.window.rest.now
+    SoFar (standing_of l.initial.self) l.first (words_of l.block) (vec_items l.initial.bookings) (words_of l.place-iterator.rest.now)
+    l.place-iterator.number (vec_items l.bookings) (standing_of l.self)

@@ -1,7 +1,7 @@
-use Rattle.std.proofs.Common.{[], ◌∷◌, ◌++◌, Err, vec_items, sym, ap, ◌∙◌, subst}
+use Rattle.std.proofs.Common.{[], ◌∷◌, ◌++◌, Err, vec_items, sym, refl, ap, ◌∙◌, subst}
 use Rattle.std.proofs.lemmas.List.{append-nil}
-use Rattle.std.proofs.lemmas.Result.{err_from_is_err_and}
-use Rattle.monthfile.specs.Faults.{Stepped, told}
+use Rattle.monthfile.proofs.Failing.{err_is}
+use Rattle.monthfile.specs.declared.fault.ReadFault.TheVariants.{Memory}
 use Rattle.monthfile.specs.Reading.{BlockRead, booking_of}
 use Rattle.monthfile.specs.View.{standing_of}
 use Rattle.monthfile.proofs.OneByOne.{nothing_read, faulty_read, taken_read, no_booking}
@@ -9,23 +9,21 @@ use Rattle.monthfile.proofs.reader.Reader.read_word.Goals as goal
 
 pub returns-in_err-reserve : goal.returns-in_err-reserve
 returns-in_err-reserve c =
-    let p = err_from_is_err_and c.from_residual.result c.from_residual.ensures.1 in
     let before = standing_of c.args.self.now in
     let bs = vec_items c.args.bookings.now in
-    subst (λ r. BlockRead before c.args.place (c.args.bits ∷ []) bs r (vec_items c.reserve.new.self) before) (sym p.1)
-    (subst (λ more. BlockRead before c.args.place (c.args.bits ∷ []) bs (Err p.0) more before) (sym c.reserve.ensures.items)
-    (nothing_read before c.args.place (c.args.bits ∷ []) bs p.0 (ap told p.2)))
+    subst (λ r. BlockRead before c.args.place (c.args.bits ∷ []) bs r (vec_items c.reserve.new.self) before) (sym (err_is c.from_residual.result Memory c.from_residual.ensures.1))
+    (subst (λ more. BlockRead before c.args.place (c.args.bits ∷ []) bs (Err Memory) more before) (sym c.reserve.ensures.items)
+    (nothing_read before c.args.place (c.args.bits ∷ []) bs Memory refl))
 
 pub returns-in_err-booking : goal.returns-in_err-booking
 returns-in_err-booking c =
-    let p = err_from_is_err_and c.from_residual-in_err-booking.result c.from_residual-in_err-booking.ensures.1 in
     let before = standing_of c.args.self.now in
     let after = standing_of c.step.new.self in
     let bs = vec_items c.args.bookings.now in
-    subst (λ r. BlockRead before c.args.place (c.args.bits ∷ []) bs r (vec_items c.reserve.new.self) after) (sym p.1)
-    (subst (λ more. BlockRead before c.args.place (c.args.bits ∷ []) bs (Err p.0) more after) (sym c.reserve.ensures.items)
-    (faulty_read before c.args.place c.args.bits bs p.0 after
-    (subst (λ f. Stepped before c.args.place c.args.bits (Err f) after) (sym p.2) c.in_err-booking.ensures)))
+    let fault = c.in_err-booking.field-0.0 in
+    subst (λ r. BlockRead before c.args.place (c.args.bits ∷ []) bs r (vec_items c.reserve.new.self) after) (sym (err_is c.from_residual-in_err-booking.result fault c.from_residual-in_err-booking.ensures.1))
+    (subst (λ more. BlockRead before c.args.place (c.args.bits ∷ []) bs (Err fault) more after) (sym c.reserve.ensures.items)
+    (faulty_read before c.args.place c.args.bits bs fault after c.in_err-booking.ensures))
 
 pub returns-in-Offtake : goal.returns-in-Offtake
 returns-in-Offtake c =

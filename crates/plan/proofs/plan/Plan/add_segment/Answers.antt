@@ -1,8 +1,7 @@
-use Rattle.std.proofs.Common.{◌≡◌, true, List, [], ◌∷◌, ◌++◌, map, is_ok, None, vec_items, ap, ◌∙◌, arith}
+use Rattle.std.proofs.Common.{◌≡◌, true, List, [], ◌∷◌, ◌++◌, is_ok, None, vec_items}
 use Rattle.std.proofs.lemmas.List.{map_push}
 use Rattle.tariff.specs.declared.terms.Terms.{Terms}
 use Rattle.plan.specs.Calls.{AddSegment, refusal_of}
-use Rattle.plan.specs.Contents.{Contents, SegmentNumbers}
 use Rattle.plan.specs.OfPlan.{contents}
 use Rattle.plan.specs.View.{segment_numbers, view_of}
 use Rattle.plan.specs.WellMade.{is_well_made}
@@ -18,13 +17,3 @@ invariant_of-self c =
     let P : List Terms → Type 0 = λ ts. is_well_made (view_of before.period ts (vec_items before.meters) (vec_items before.carried)) ≡ true in
     let taken : P (vec_items before.segments ++ terms ∷ []) = rw map_push (kept (contents before) call before.well_made lawful) in
     record { well_made = after_push P (is_ok c.push.result) (vec_items before.segments) (vec_items c.push.new.self) terms c.push.ensures.items taken before.well_made }
-
-pub returns : goal.returns
-returns c =
-    let before = contents c.args.self.now in
-    let held = vec_items c.args.self.now.segments in
-    let with-segments : List SegmentNumbers → Contents = λ ss. record { period = before.period; segments = ss; meters = before.meters; carried = before.carried } in
-    let now-held = ap (map segment_numbers) c.in_ok-push.ensures.items
-    ∙ map_push segment_numbers held c.in_ok-terms.terms
-    ∙ ap (λ s. map segment_numbers held ++ s ∷ []) c.in_ok-terms.ensures.terms in
-    record { answer = (c.in_ok-terms.ensures.answer, ap with-segments now-held); memory = λ e. grind arith }

@@ -9,8 +9,5 @@ invariant_of-result c =
     let empty : view_of None (vec_items c.new.result) (vec_items c.new-2.result) (vec_items c.new-3.result) ≡ nothing = simp (c.new.ensures.items, c.new-2.ensures.items, c.new-3.ensures.items) in
     record { well_made = rw empty nothing_well_made }
 
-pub returns : goal.returns
-returns c = record {
-  empty = simp (c.new.ensures.items, c.new-2.ensures.items, c.new-3.ensures.items);
-  made = made_by_calls;
-}
+pub returns-clause-made : goal.returns-clause-made
+returns-clause-made c = made_by_calls

@@ -8,6 +8,6 @@ use Rattle.plan.proofs.plan.Plan.set_period.Goals as goal
 pub invariant_of-self : goal.invariant_of-self
 invariant_of-self c =
     let plan = contents c.args.self.now in
-    let call = SetPeriod (period_numbers c.in-Some.period) in
+    let call = SetPeriod (period_numbers c.in_ok-period.period) in
     let taken : refusal_of plan call ≡ None = search rules in
     record { well_made = kept plan call c.args.self.now.well_made taken }

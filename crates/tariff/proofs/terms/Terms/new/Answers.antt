@@ -1,18 +1,18 @@
--- A number that no service has is none of the three, and the terms that are made are the only ones with their numbers.
-use Rattle.std.proofs.Common.{◌≡◌, sym, ◌∙◌, arith, rules}
+-- A number that no service has is none of the three.
+use Rattle.std.proofs.Common.{◌≡◌, false, Some, sym, rules, arith}
 use Rattle.std.proofs.lemmas.Bool.Decides.{nat_tests}
+use Rattle.calendar.specs.OfPeriod.{is_whole}
 use Rattle.tariff.specs.declared.service.Service.TheVariants.{FullYear, PartYear, PartMonth}
-use Rattle.tariff.proofs.Alike.{alike}
+use Rattle.tariff.specs.Faults.{told}
+use Rattle.tariff.specs.Services.{allows_service}
 use Rattle.tariff.proofs.terms.Terms.new.Goals as goal
 
-pub returns-in_default : goal.returns-in_default
-returns-in_default c =
+pub returns-in_err-service-clause-answer : goal.returns-in_err-service-clause-answer
+returns-in_err-service-clause-answer c =
     let n = c.args.service in
-    let a : n ≡ 0 → ⊥ = λ e. c.in_default.ensures FullYear (sym e) in
-    let b : n ≡ 1 → ⊥ = λ e. c.in_default.ensures PartYear (sym e) in
-    let d : n ≡ 2 → ⊥ = λ e. c.in_default.ensures PartMonth (sym e) in
-    record { answer = grind (arith, nat_tests); fields = tt; only = tt }
-
-pub returns : goal.returns
-returns c =
-    record { answer = search rules; fields = search rules; only = λ u s n k. alike _ u (c.in-Some.ensures ∙ sym s) (sym n) (sym k) }
+    let a : n ≡ 0 → ⊥ = λ e. c.in_err-service.ensures.1 FullYear (sym e) in
+    let b : n ≡ 1 → ⊥ = λ e. c.in_err-service.ensures.1 PartYear (sym e) in
+    let d : n ≡ 2 → ⊥ = λ e. c.in_err-service.ensures.1 PartMonth (sym e) in
+    let none : allows_service (is_whole c.args.period.now) n ≡ false = grind (arith, nat_tests) in
+    let answer : told c.from_residual.result ≡ Some 3 = search rules in
+    rw none answer

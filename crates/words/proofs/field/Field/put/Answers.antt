@@ -1,9 +1,5 @@
-use native.Mathlib.Nat.{div-eq_of_lt}
 use Rattle.words.proofs.Placing.{below_from_shr, or_placed}
 use Rattle.words.proofs.field.Field.put.Goals as goal
-
-pub returns-then-value-self-ne0 : goal.returns-then-value-self-ne0
-returns-then-value-self-ne0 c = λ small. c.if-value-self-ne0.true (div-eq_of_lt small)
 
 pub returns : goal.returns
 returns c =

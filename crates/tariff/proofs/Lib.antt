@@ -1,2 +1,0 @@
-mod Alike
-mod Rounding
