@@ -5,6 +5,7 @@ use Rattle.std.specs.List.{range_with_len}
 use Rattle.std.proofs.lemmas.List.FromFn.{map-range_with_len_more, length-map-range_with_len, get_or-map-range_with_len, fill_by_all}
 use Rattle.std.proofs.lemmas.List.{map-id, same_lists, length-replicate, get_or-replicate}
 use Rattle.std.proofs.lemmas.List.Sums.{sum_by_push, sum_by_more, sum_by-take-le, sum-map}
+use Rattle.std.proofs.lemmas.Simd.{map-map}
 use Rattle.std.proofs.lemmas.Bool.{cases_eq}
 
 -- f added up over the positions below n
@@ -56,10 +57,17 @@ pub over-const : (c n : ℕ) → over (λ _. c) n ≡ n * c
 over-const c zero = omega arith
 over-const c (suc n) = omega (arith, over-suc (λ _. c) n, over-const c n, suc-mul n c)
 
+-- a sum over a list, by its positions
+pub sum_by_over : (f : ℕ → ℕ) (xs : List ℕ) → sum_by f xs ≡ over (λ k. f (slice_index xs k)) (length xs)
+sum_by_over f xs =
+    sym (sum-map f xs)
+    ∙ ap (λ ys. sum (map f ys)) (fill_by_all (λ k. slice_index xs k) xs (length xs) 0 refl (λ k h. refl))
+    ∙ ap sum (map-map f (λ k. slice_index xs k) (range_with_len 0 (length xs)))
+    ∙ sum-map (λ k. f (slice_index xs k)) (range_with_len 0 (length xs))
+
 -- a list's sum, by its positions
 pub sum_over : (xs : List ℕ) → sum xs ≡ over (λ k. slice_index xs k) (length xs)
-sum_over xs =
-    ap sum (fill_by_all (λ k. slice_index xs k) xs (length xs) 0 refl (λ k h. refl)) ∙ sum-map (λ k. slice_index xs k) (range_with_len 0 (length xs))
+sum_over xs = sum_by_over (λ x. x) xs
 
 -- the first elements and the next one are part of all
 pub sum-next_le : (xs : List ℕ) (i : ℕ) → i < length xs → sum (take i xs) + slice_index xs i ≤ sum xs

@@ -55,21 +55,25 @@ module _ (total : ℕ) (weights : List ℕ) where
   whole_le positive =
       le_of_mul-le-mul_left {k = sum weights} (omega (arith, products, mul_comm total (sum weights))) positive
 
-  -- the whole parts so far and the next one do not pass the total
-  pub next_whole_le : (i : ℕ) → i < count → over (whole_part total weights) i + whole_part total weights i ≤ total
-  next_whole_le i h =
+  -- the whole parts do not pass the total
+  pub wholes_le : over (whole_part total weights) count ≤ total
+  wholes_le =
       ⊎_elim
-      (λ positive. omega (arith, whole_le positive, over-suc (whole_part total weights) i, over-upto (whole_part total weights) (suc i) count h))
+      whole_le
       (λ (none : sum weights ≤ 0). omega (
         arith,
-        over-suc (whole_part total weights) i,
-        over-const 0 (suc i),
-        over-same (whole_part total weights) (λ _. 0) (suc i) (λ k _. no_part k (omega arith)),
+        over-const 0 count,
+        over-same (whole_part total weights) (λ _. 0) count (λ k _. no_part k (omega arith)),
       ))
       (cases_lt 0 (sum weights))
     where
       no_part : (k : ℕ) → sum weights ≡ 0 → whole_part total weights k ≡ 0
       no_part k none = rw none (div-zero (total * slice_index weights k))
+
+  -- nor do those so far with the next one
+  pub next_whole_le : (i : ℕ) → i < count → over (whole_part total weights) i + whole_part total weights i ≤ total
+  next_whole_le i h =
+      omega (arith, wholes_le, over-suc (whole_part total weights) i, over-upto (whole_part total weights) (suc i) count h)
 
   -- the units left over are what the remainders come to
   left_is : 0 < sum weights → sum weights * left_over total weights ≡ over (remainder total weights) count

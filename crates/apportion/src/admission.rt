@@ -9,6 +9,9 @@ pub const MOST_WEIGHTS: usize = 16;
 
 const HEAVIEST: u64 = 1_000_000_000;
 
+// The greatest total that both rules take.
+pub(crate) const GREATEST_TOTAL: u64 = 3_000_000_000;
+
 // The sum of the weights. It does not wrap: a sum that 64 bits do not hold is their greatest number.
 fn weigh(weights: &[u64]) -> u64
     ensures { result ≡ min (sum weights.now) (2 ^ 64 - 1) }

@@ -4,7 +4,7 @@ ghost use Rattle.apportion.specs.Cutting.{greatest_total};
 ghost use Rattle.apportion.specs.LargestRemainder.{ahead, largest_remainder, left_over, precedes, remainder, share_by_remainder};
 ghost use Rattle.apportion.specs.Rounding.{by_remainder};
 
-use crate::admission::admit;
+use crate::admission::{GREATEST_TOTAL, admit};
 use crate::apportionment::Apportionment;
 use crate::fault::CutFault;
 use crate::rule::CutRule;
@@ -13,7 +13,7 @@ use crate::rule::CutRule;
 pub struct LargestRemainder;
 
 impl CutRule for LargestRemainder {
-    const GREATEST: u64 = 3_000_000_000;
+    const GREATEST: u64 = GREATEST_TOTAL;
 
     ghost GREATEST = { greatest_total };
 
@@ -32,6 +32,7 @@ impl CutRule for LargestRemainder {
     }
 }
 
+// A position is a bare index: a type of its own would have to hold the weights as well, and be no plainer.
 impl Apportionment<'_> {
     // The whole part, and one unit more where fewer positions precede than units are left over.
     fn share_at(&self, position: usize, left: u64) -> u64
@@ -51,11 +52,12 @@ impl Apportionment<'_> {
     fn left_over(&self) -> u64
         ensures { result ≡ left_over self.now.total self.now.weights.now }
     {
-        let mut left = self.total;
-        for weight in self.weights {
-            left -= self.portion(*weight);
-        }
-        left
+        let parts: u64 = self
+            .weights
+            .iter()
+            .map(|weight| self.portion(*weight))
+            .sum();
+        self.total - parts
     }
 
     fn count_ahead(&self, position: usize) -> usize

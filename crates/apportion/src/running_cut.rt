@@ -1,10 +1,10 @@
 // The running cut: a share is the step of the rounded running total.
-ghost use Rattle.std.specs.Prelude.{◌≡◌, ◌<◌, length, take, sum};
-ghost use Rattle.apportion.specs.Cutting.{greatest_total};
-ghost use Rattle.apportion.specs.RunningCut.{running_cut, share_by_running};
+ghost use Rattle.std.specs.Prelude.{◌≡◌, ◌+◌, ◌-◌, ◌*◌, ◌/◌, ◌≤◌};
+ghost use Rattle.apportion.specs.Cutting.{greatest_total, heaviest};
+ghost use Rattle.apportion.specs.RunningCut.{running_cut};
 ghost use Rattle.apportion.specs.Steps.{by_steps};
 
-use crate::admission::admit;
+use crate::admission::{GREATEST_TOTAL, admit};
 use crate::apportionment::Apportionment;
 use crate::fault::CutFault;
 use crate::rule::CutRule;
@@ -13,7 +13,7 @@ use crate::rule::CutRule;
 pub struct RunningCut;
 
 impl CutRule for RunningCut {
-    const GREATEST: u64 = 3_000_000_000;
+    const GREATEST: u64 = GREATEST_TOTAL;
 
     ghost GREATEST = { greatest_total };
 
@@ -24,8 +24,9 @@ impl CutRule for RunningCut {
     fn cut(&self, total: u64, weights: &[u64], places: &mut [u64]) -> Result<(), CutFault> {
         let cut = admit(Self::GREATEST, total, weights, places.len())?;
         let mut before = 0;
+        // By index, and not `places.iter_mut().zip(..)`: tried, and of what is written through a zip a proof knows nothing.
         for (i, weight) in cut.weights.iter().enumerate() {
-            places[i] = cut.rise(i, before);
+            places[i] = cut.rise(before, *weight);
             before += *weight;
         }
         Ok(())
@@ -33,12 +34,11 @@ impl CutRule for RunningCut {
 }
 
 impl Apportionment<'_> {
-    // What the weight at a position adds to the rounded portion of the weights before it.
-    fn rise(&self, position: usize, before: u64) -> u64
-        requires within { position < length self.now.weights.now }
-        requires so_far { before ≡ sum (take position self.now.weights.now) }
-        ensures { result ≡ share_by_running self.now.total self.now.weights.now position }
+    // What a weight adds to the rounded portion of the weights before it.
+    fn rise(&self, before: u64, weight: u64) -> u64
+        requires { before + weight ≤ heaviest }
+        ensures { result ≡ self.now.total * (before + weight) / self.now.whole - self.now.total * before / self.now.whole }
     {
-        self.portion(before + self.weights[position]) - self.portion(before)
+        self.portion(before + weight) - self.portion(before)
     }
 }

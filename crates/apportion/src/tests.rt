@@ -1,7 +1,7 @@
 use crate::{CutFault, CutRule, LargestRemainder, RunningCut, share_out};
 use std::process::Abort;
 
-// The number that a cut is refused with, or 0.
+// The number that a cut is refused with, or 0: the values of the tables below.
 fn answer<R: CutRule>(rule: &R, total: u64, weights: &[u64], places: &mut [u64]) -> u8 {
     rule.cut(total, weights, places)
         .err()

@@ -6,7 +6,7 @@ fn opened(rt: &HostRuntime) -> Result<Book<Adding>, Fail> {
     Book::open(rt.alloc(), Adding::new()).map_err(|_| Fail::new("no memory"))
 }
 
-// The number of a refusal, or 0.
+// The number of a refusal, or 0: the values that the tests have.
 fn number(res: Result<(), BookFault>) -> u8 {
     res.err().map_or(0, |fault| fault.number())
 }

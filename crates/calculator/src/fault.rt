@@ -23,7 +23,7 @@ pub enum RequestFault {
 }
 
 impl RequestFault {
-    // The number of the refusal, if the fault is one.
+    // The number of the refusal, if the fault is one. A match, since the cases hold faults that have the numbers.
     pub fn number(self) -> Option<u8>
         ensures { result ≡ number_of self }
     {

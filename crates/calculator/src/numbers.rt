@@ -7,7 +7,8 @@ use crate::fault::RequestFault;
 use std::alloc::{AllocError, Global};
 use std::fmt::Write;
 
-// The numbers that the words write. A word that writes none that 64 bits hold makes no request.
+// The numbers that the words write. A word that writes none that 64 bits hold makes no request. A `for` with `?` and no
+// `try_collect`, since the contract says that it fails where a word does.
 pub(crate) fn read_numbers(heap: Global, words: &[String]) -> Result<Vec<u64>, RequestFault>
     ensures { MatchResult result (λ v. WriteAll words.now v.items) (Unread words.now) }
 {
@@ -18,7 +19,7 @@ pub(crate) fn read_numbers(heap: Global, words: &[String]) -> Result<Vec<u64>, R
     Ok(numbers)
 }
 
-// The numbers on one line, parted by blanks.
+// The numbers on one line, parted by blanks. They are counted because no blank stands in front of the first.
 pub(crate) fn spaced_line(heap: Global, numbers: &[u64]) -> Result<String, AllocError>
     ensures { IfOk result (λ line. string_bytes line ≡ spaced numbers.now) }
 {

@@ -6,7 +6,7 @@ use crate::rules::{
     FIRST_YEAR, HOURS_OF_DAY, LAST_MONTH, LAST_YEAR, days_of_month, days_of_year, most_hours,
 };
 
-#[derive(Clone, Copy)]
+#[derive(Clone, Copy, PartialEq, Eq, Debug)]
 pub struct Period {
     year: u32,
     month: u32,
@@ -17,7 +17,8 @@ pub struct Period {
 impl Period {
     ghost use Rattle.calendar.specs.OfPeriod.{days_billed, is_whole};
 
-    // The period, if it can be settled. The numbers come one by one, as a date's do: what holds all three is what is made here.
+    // The period, if it can be settled. The three numbers come one by one, as callers have them; a struct of them before they
+    // are judged would be no plainer.
     pub fn new(year: u32, month: u32, hours: u32) -> Option<Period>
         ensures cases { MatchOption result (takes_period year month hours ≡ false) (λ p. (takes_period year month hours ≡ true) × (p.year ≡ year) × (p.month ≡ month) × (p.hours ≡ hours)) }
         ensures only { (p : Period) → p.year ≡ year → p.month ≡ month → p.hours ≡ hours → result ≡ Some p }

@@ -19,7 +19,8 @@ fn dump_word(reader: &mut Reader, place: u64, bits: u32, text: &mut String) -> R
     Ok(())
 }
 
-// Takes the words of a block, the first of them at this place, and adds a line to the text for each record, up to the first fault.
+// Takes the words of a block, the first of them at this place, and adds a line to the text for each record, up to the first
+// fault.
 pub fn dump_block(
     reader: &mut Reader,
     block: &[u8],

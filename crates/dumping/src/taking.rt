@@ -16,7 +16,8 @@ fn plan_record(phase: Phase, word: Word) -> Option<Record>
 {
     match (word, phase) {
         (Word::Period { year, month, hours }, _) => Some(Record::Period { year, month, hours }),
-        // A segment is complete with its factor.
+        // A segment is complete with its factor. No `From` makes the entries here and below: words and plan do not know one
+        // another.
         (Word::Factor { factor, .. }, Phase::Terms(given)) => Some(Record::Terms {
             segment: given.segment,
             service: given.service,

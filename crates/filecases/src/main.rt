@@ -59,11 +59,10 @@ fn show_words(rt: &HostRuntime, label: &str, front: &[u32], rest: &[u32]) -> any
 // The worked file, cut at each byte of its last two words.
 fn show_cuts(rt: &HostRuntime) -> anyhow::Result<()> {
     let whole = bytes_of(rt.alloc(), &JULY)?;
-    for length in 60..69 {
+    let bytes = whole.as_slice();
+    for length in 60..=bytes.len() {
         let label = format!(in rt.alloc(); "july cut to {length} bytes")?;
-        let mut bytes = whole.clone()?;
-        bytes.truncate(length);
-        show(rt, label.as_str(), bytes.as_slice())?;
+        show(rt, label.as_str(), &bytes[..length])?;
     }
     Ok(())
 }
@@ -98,69 +97,90 @@ fn show_all_spare_bits(rt: &HostRuntime) -> anyhow::Result<()> {
     Ok(())
 }
 
-// Each kind, known or not, after so many words of a file.
-fn show_kinds(rt: &HostRuntime, phase: &str, count: usize) -> anyhow::Result<()> {
-    let mut front = EACH_KIND.to_vec(rt.alloc())?;
-    front.truncate(count);
+// Each kind, known or not, after the words that a file begins with.
+fn show_kinds(rt: &HostRuntime, phase: &str, front: &[u32]) -> anyhow::Result<()> {
     for (kind, word) in KINDS.iter().enumerate() {
         let label = format!(in rt.alloc(); "kind {kind} in phase {phase}")?;
-        show_words(rt, label.as_str(), front.as_slice(), &[*word])?;
+        show_words(rt, label.as_str(), front, &[*word])?;
     }
     Ok(())
 }
 
 fn show_all_phases(rt: &HostRuntime) -> anyhow::Result<()> {
     let phases = [
-        ("start", 0),
-        ("segments", 1),
-        ("factor due", 2),
-        ("meters", METERS),
-        ("carried", 11),
-        ("selected", 12),
-        ("bookings", 13),
+        ("start", &EACH_KIND[..0]),
+        ("segments", &EACH_KIND[..1]),
+        ("factor due", &EACH_KIND[..2]),
+        ("meters", &EACH_KIND[..METERS]),
+        ("carried", &EACH_KIND[..11]),
+        ("selected", &EACH_KIND[..12]),
+        ("bookings", &EACH_KIND[..13]),
     ];
-    for (phase, count) in phases {
-        show_kinds(rt, phase, count)?;
+    for (phase, front) in phases {
+        show_kinds(rt, phase, front)?;
+    }
+    Ok(())
+}
+
+// A file's label, the words that it begins with, and those that it goes on with.
+type Case<'a> = (&'a str, &'a [u32], &'a [u32]);
+
+fn show_cases(rt: &HostRuntime, cases: &[Case<'_>]) -> anyhow::Result<()> {
+    for &(label, front, rest) in cases {
+        show_words(rt, label, front, rest)?;
     }
     Ok(())
 }
 
 // Order and limits of selects and amounts.
 fn show_selections(rt: &HostRuntime) -> anyhow::Result<()> {
-    let cases: [(&str, &[u32]); 12] = [
-        ("a select twice", &[0x50000000, 0x50000000]),
-        ("another select after a select", &[0x50000000, 0x50000001]),
-        ("a redundant select", &[0x50000000, 0x60000001, 0x50000001]),
+    let meters = &EACH_KIND[..METERS];
+    let cases: [Case<'_>; 12] = [
+        ("a select twice", meters, &[0x50000000, 0x50000000]),
+        (
+            "another select after a select",
+            meters,
+            &[0x50000000, 0x50000001],
+        ),
+        (
+            "a redundant select",
+            meters,
+            &[0x50000000, 0x60000001, 0x50000001],
+        ),
         (
             "the same hour again",
+            meters,
             &[0x50000000, 0x60000001, 0x50000000, 0x60000001],
         ),
-        ("hour 744", &[0x500002E8, 0x60000001]),
-        ("hour 745", &[0x500002E9, 0x60000001]),
-        ("hour 800", &[0x50000320, 0x60000001]),
-        ("an amount at 745", &[0x500002E8, 0x60000001, 0x60000001]),
+        ("hour 744", meters, &[0x500002E8, 0x60000001]),
+        ("hour 745", meters, &[0x500002E9, 0x60000001]),
+        ("hour 800", meters, &[0x50000320, 0x60000001]),
+        (
+            "an amount at 745",
+            meters,
+            &[0x500002E8, 0x60000001, 0x60000001],
+        ),
         (
             "a select of 745 at 745",
+            meters,
             &[0x500002E8, 0x60000001, 0x500002E9],
         ),
         (
             "a select after 744",
+            meters,
             &[0x500002E8, 0x60000001, 0x50000000, 0x60000001],
         ),
-        ("the greatest amount", &[0x50000000, 0x60007FFF]),
-        ("an end after a select", &[0x50000000]),
+        ("the greatest amount", meters, &[0x50000000, 0x60007FFF]),
+        ("an end after a select", meters, &[0x50000000]),
     ];
-    for (label, rest) in cases {
-        show_words(rt, label, &EACH_KIND[..METERS], rest)?;
-    }
-    Ok(())
+    show_cases(rt, &cases)
 }
 
 // Order and values of the period and of the segments' terms.
 fn show_terms(rt: &HostRuntime) -> anyhow::Result<()> {
     let period = &EACH_KIND[..1];
     let segment = &EACH_KIND[..3];
-    let cases: [(&str, &[u32], &[u32]); 9] = [
+    let cases: [Case<'_>; 9] = [
         ("a second period", period, &[0x17E67002]),
         ("segment 1 first", period, &[0x2400042B, 0x340003E8]),
         ("segment 2 before 1", segment, &[0x2800042B, 0x380003E8]),
@@ -183,17 +203,14 @@ fn show_terms(rt: &HostRuntime) -> anyhow::Result<()> {
             &[0x2200042B, 0x300003E8],
         ),
     ];
-    for (label, front, rest) in cases {
-        show_words(rt, label, front, rest)?;
-    }
-    Ok(())
+    show_cases(rt, &cases)
 }
 
 // Order and values of the meters and the carried peaks.
 fn show_meters(rt: &HostRuntime) -> anyhow::Result<()> {
     let terms = &EACH_KIND[..9];
     let peak = &EACH_KIND[..11];
-    let cases: [(&str, &[u32], &[u32]); 7] = [
+    let cases: [Case<'_>; 7] = [
         ("a plan with no meter", terms, &[]),
         ("a meter again", terms, &[0x40000000, 0x40400000]),
         (
@@ -210,27 +227,22 @@ fn show_meters(rt: &HostRuntime) -> anyhow::Result<()> {
         ("a carried peak of 0", terms, &[0x40000000, 0x70000000]),
         ("a carried peak of 20001", terms, &[0x40000000, 0x70004E21]),
     ];
-    for (label, front, rest) in cases {
-        show_words(rt, label, front, rest)?;
-    }
-    Ok(())
+    show_cases(rt, &cases)
 }
 
 // The last hour of a month, and the one after it.
 fn show_periods(rt: &HostRuntime) -> anyhow::Result<()> {
-    let cases = [
-        ("March 2024 with 743 hours", 0x17E832E7),
-        ("March 2024 with 744 hours", 0x17E832E8),
-        ("October 2024 with 745 hours", 0x17E8A2E9),
-        ("October 2024 with 746 hours", 0x17E8A2EA),
-        ("month 13", 0x17E8D001),
-        ("year 1999", 0x17CF1001),
-        ("no hour", 0x17E81000),
+    let terms = &EACH_KIND[1..9];
+    let cases: [Case<'_>; 7] = [
+        ("March 2024 with 743 hours", &[0x17E832E7], terms),
+        ("March 2024 with 744 hours", &[0x17E832E8], terms),
+        ("October 2024 with 745 hours", &[0x17E8A2E9], terms),
+        ("October 2024 with 746 hours", &[0x17E8A2EA], terms),
+        ("month 13", &[0x17E8D001], terms),
+        ("year 1999", &[0x17CF1001], terms),
+        ("no hour", &[0x17E81000], terms),
     ];
-    for (label, period) in cases {
-        show_words(rt, label, &[period], &EACH_KIND[1..9])?;
-    }
-    Ok(())
+    show_cases(rt, &cases)
 }
 
 fn main(rt: HostRuntime) -> anyhow::Result<()> {

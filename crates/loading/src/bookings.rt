@@ -23,7 +23,7 @@ impl<A: WeightSource, B: WeightSource, C: WeightSource, D: WeightSource> Booking
     ) -> Result<Open<Month<A, B, C, D>>, Stopped<A, B, C, D>>
         ensures { AfterWords self (λ joins words. RestBooked A.WeightSource B.WeightSource C.WeightSource D.WeightSource joins words file.old file.new result) }
     {
-        // Both arms take the month, so that neither is a closure's of `map_err`.
+        // A match, since either outcome takes the month, which one closure alone could.
         let booked = self.book_words(file);
         let Bookings { reader: _, month } = self;
         match booked {
@@ -39,7 +39,7 @@ impl<A: WeightSource, B: WeightSource, C: WeightSource, D: WeightSource> Booking
     fn book_words<R: Read>(&mut self, file: &mut FileWords<R>) -> Result<(), LoadFault>
         ensures { AfterWords self.old (λ joins words. BooksRead joins words file.old file.new (held self.new) result) }
     {
-        // No `for`: the words of a file are no Iterator.
+        // No `for`: reading may fail at each word, and what is left of the file is asked after the last.
         while let Some((place, bits)) = file.next()? {
             self.book_word(place, bits)?;
         }

@@ -5,7 +5,7 @@ use plan::Booking;
 pub enum Call {
     /// Book the amount of a meter in an hour.
     Book(Booking),
-    /// Ask how many hours a meter still misses.
+    /// Ask how many hours a meter still misses. The segment is a number, since a caller may name one that is none.
     Ask { segment: u32, meter: u32 },
 }
 

@@ -14,6 +14,7 @@ use weights::WeightSource;
 /// A meter, and how many hours it still misses.
 #[derive(Clone, Copy, PartialEq, Eq, Debug)]
 pub struct Gap {
+    /// By its number, as the plan's meters have it.
     pub segment: u32,
     pub meter: u32,
     pub hours: u64,
@@ -24,6 +25,7 @@ impl<A: WeightSource, B: WeightSource, C: WeightSource, D: WeightSource> Open<Mo
     pub fn gaps(&self, heap: Global) -> Result<Vec<Gap>, AllocError>
         ensures { IfOk result (λ gaps. AsStands (state_of self.now.0) (λ terms bookings. gaps.items ≡ gaps_of terms bookings)) }
     {
+        // A loop: collected from a chain, it stays open that the plan assigns each meter the closure is called for.
         let meters = self.0.plan.meters();
         let mut gaps = Vec::new(heap);
         for meter in meters {

@@ -24,7 +24,7 @@ pub struct Open<M>(pub(crate) M);
 impl<A: WeightSource, B: WeightSource, C: WeightSource, D: WeightSource> Open<Month<A, B, C, D>> {
     /// Opens a month from a full plan: resets the sources and notes the carried peaks. Refused with 2 where the plan is not
     /// full, and plan and sources come back as they were; then with 6 where a carried peak makes a weight that passes
-    /// 15,000,000, and the sources come back reset. Want of memory has no number and leaves what 6 leaves.
+    /// 15,000,000, and the sources come back reset. Want of memory has no number; plan and sources come back as with 6.
     pub fn open(
         heap: Global,
         plan: Plan,

@@ -3,7 +3,8 @@ ghost use Rattle.month.specs.OfMonth.{IsReset};
 
 use weights::WeightSource;
 
-/// The weight sources of the four segments. Clauses on them name the four bounds, which their type does not show.
+/// The weight sources of the four segments. Clauses on them name the four bounds, which their type does not show. Four type
+/// parameters, and no trait of four types: whoever puts four sources together would owe a type and an impl.
 #[derive(Drop)]
 pub struct Sources<A, B, C, D> {
     pub amr: A,

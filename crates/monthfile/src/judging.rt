@@ -43,7 +43,8 @@ impl Reader {
         mem::replace(&mut self.plan, Plan::new(heap))
     }
 
-    // Judges the bits of the word at this place: what it brings, or its fault, which leaves the reader where it stood.
+    // Judges the bits of the word at this place: what it brings, or its fault, which leaves the reader where it stood. Place and
+    // bits come apart, as callers have them.
     pub fn step(&mut self, place: u64, bits: u32) -> Result<Brought, ReadFault>
         ensures { Stepped (standing_of self.old) place bits result (standing_of self.new) }
     {
@@ -76,6 +77,7 @@ impl Reader {
                 },
                 Phase::Meters,
             ) => {
+                // No `From` can stand for this: words and plan do not know one another.
                 let assigned = Meter {
                     segment,
                     number: meter,
@@ -137,7 +139,8 @@ impl Reader {
         Ok(Brought::Nothing)
     }
 
-    // The calls on the plan stand apart: each is one of the plan's own, and what they share is the place.
+    // One function for each call on the plan, here and above: the contract names the call and the phase after it, and what the
+    // bodies share is three short lines.
     fn take_meter(&mut self, place: u64, meter: Meter) -> Result<Brought, ReadFault>
         ensures { JudgedByPlan (standing_of self.old) place (AddMeter meter) (λ _. Meters) result (standing_of self.new) }
     {

@@ -1,23 +1,38 @@
 // Puts bookings, and counts their words.
 ghost use Rattle.std.specs.Prelude.{◌≡◌, ◌*◌, ◌≤◌, true, length, None};
-ghost use Rattle.std.specs.List.{list_all};
 ghost use Rattle.monthfile.specs.File.{booking_words, comes_next, one_on, select_words, spot_of};
 ghost use Rattle.monthwriter.specs.Placing.{RoomFor, WordsPut, words_of_booking};
 ghost use Rattle.monthwriter.specs.Refusals.{is_held};
 
+use crate::month_file::MonthFile;
 use crate::placing::Output;
 use plan::Booking;
 use words::{Spot, Word};
 
-pub(crate) fn put_bookings(bookings: &[Booking], out: &mut Output<'_>)
-    requires held { list_all is_held bookings.now ≡ true }
-    requires room { RoomFor out.old (booking_words None bookings.now) }
-    ensures { WordsPut out.old (booking_words None bookings.now) out.new }
-{
-    let mut next = None;
-    for booking in bookings {
-        put_booking(next, booking, out);
-        next = Some(hour_after(booking));
+impl MonthFile<'_> {
+    pub(crate) fn put_bookings(&self, out: &mut Output<'_>)
+        requires { RoomFor out.old (booking_words None self.now.bookings.now) }
+        ensures { WordsPut out.old (booking_words None self.now.bookings.now) out.new }
+    {
+        let mut next = None;
+        for booking in self.bookings {
+            put_booking(next, booking, out);
+            next = Some(hour_after(booking));
+        }
+    }
+
+    // How many words the bookings have. A loop keeps the bound of the total, and the hour that comes next, step by step.
+    pub(crate) fn count_words(&self) -> u128
+        ensures count { result ≡ length (booking_words None self.now.bookings.now) }
+        ensures bound { result ≤ 2 * length self.now.bookings.now }
+    {
+        let mut words = 0;
+        let mut next = None;
+        for booking in self.bookings {
+            words += if next == Some(spot_of(booking)) { 1 } else { 2 };
+            next = Some(hour_after(booking));
+        }
+        words
     }
 }
 
@@ -42,22 +57,7 @@ fn put_select(next: Option<Spot>, spot: Spot, out: &mut Output<'_>)
     }
 }
 
-// How many words the bookings have.
-pub(crate) fn count_words(bookings: &[Booking]) -> u128
-    requires { list_all is_held bookings.now ≡ true }
-    ensures count { result ≡ length (booking_words None bookings.now) }
-    ensures bound { result ≤ 2 * length bookings.now }
-{
-    let mut words = 0;
-    let mut next = None;
-    for booking in bookings {
-        words += if next == Some(spot_of(booking)) { 1 } else { 2 };
-        next = Some(hour_after(booking));
-    }
-    words
-}
-
-// The meter's hour that the booking books.
+// The meter's hour that the booking books. Both types are other crates', so that `From` cannot be implemented here.
 fn spot_of(booking: &Booking) -> Spot
     ensures { result ≡ spot_of booking.now }
 {

@@ -8,6 +8,7 @@ use crate::placing::Output;
 use plan::{CarriedPeak, Meter, Plan};
 use words::Word;
 
+// What has a word of its own. The entries and `Word` are other crates' types, so that `From` cannot be implemented here.
 trait PlanEntry {
     ghost in_file: { Self → Word };
 

@@ -6,6 +6,7 @@ mod checks;
 mod entries;
 mod fault;
 mod head;
+mod month_file;
 mod placing;
 #[cfg(test)]
 mod tests;

@@ -7,6 +7,7 @@ use words::Word;
 pub(crate) const WORD_BYTES: usize = 4;
 
 // The caller's memory, and the place of the next word in it.
+// Not the rest of the memory alone, since the contracts speak of all of it, with the words in it.
 #[derive(Drop)]
 pub(crate) struct Output<'a> {
     memory: &'a mut [u8],

@@ -42,7 +42,7 @@ fn booked(fields: [u32; 4]) -> Booking {
     }
 }
 
-// The number of the refusal, or 0 where the file is written.
+// The number of the refusal, or 0 where the file is written: the values of the tables below.
 fn answer(plan: &Plan, fields: [u32; 4], out: &mut [u8]) -> u8 {
     write(plan, &[booked(fields)], out)
         .err()

@@ -13,5 +13,5 @@ pub const MOST_STATIONS: u32 = 16;
 // The kWh of one meter in one hour.
 pub const GREATEST_AMOUNT: u32 = 20_000;
 
-// The segment whose meters carry a peak over from earlier months.
+// The segment whose meters carry a peak over from earlier months, by its number, as the calls take segments.
 pub const AMR: u32 = Segment::Amr as u32;

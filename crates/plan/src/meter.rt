@@ -9,7 +9,8 @@ use crate::segment::Segment;
 
 #[derive(Clone, Copy, PartialEq, Eq, Debug)]
 pub struct Meter {
-    // As the caller gave it, which may be no segment's number: the plan judges it, and a narrower type would ask more of the caller.
+    // As the caller gave it, which may be no segment's number: the plan judges it, and a narrower type would ask more of
+    // the caller.
     pub segment: u32,
     pub number: u32,
     pub user: u32,

@@ -13,7 +13,7 @@ const GREATEST_TARIFF: u32 = 9_999;
 
 pub(crate) const GREATEST_FACTOR: u32 = 2_000;
 
-#[derive(Clone, Copy)]
+#[derive(Clone, Copy, PartialEq, Eq, Debug)]
 pub struct Terms {
     service: Service,
     // Thousandths of € per kWh/h per year.

@@ -1,4 +1,4 @@
-use crate::{Terms, fee, segment_total};
+use crate::{TariffFault, Terms, fee, segment_total};
 use calendar::Period;
 
 // A total, or nothing where it is refused.
@@ -37,13 +37,11 @@ fn fees(rt: HostRuntime) {
     }
 }
 
-// The number with which terms are refused for so many hours of April, 0 where they are taken.
+// The number with which terms are refused for so many hours of April, 0 where they are taken: the values of the table below.
 fn refusal(hours: u32, service: u32, tariff: u32, factor: u32) -> Option<u8> {
     let period = Period::new(2022, 4, hours)?;
-    match Terms::new(&period, service, tariff, factor) {
-        Ok(_) => Some(0),
-        Err(fault) => Some(fault.number()),
-    }
+    let fault = Terms::new(&period, service, tariff, factor).err();
+    Some(fault.map_or(0, TariffFault::number))
 }
 
 #[test]

@@ -6,7 +6,8 @@ ghost use Rattle.weights.specs.Limits.{meter_count};
 use crate::fault::WeightFault;
 
 /// Keeps one weight for each of the 64 meters of a segment. Its meaning is these weights and its joining, which makes
-/// one number of a weight and an amount and which no call changes.
+/// one number of a weight and an amount and which no call changes: a clause of each call, since a ghost field would be asked
+/// of every source's type.
 pub trait WeightSource {
     ghost weights: { Self → List ℕ };
 

@@ -65,15 +65,9 @@ impl Word {
                 let bits = MONTH.put(bits, month)?;
                 HOURS.put(bits, hours)
             }
-            Word::Segment(
-                SegmentWord {
-                    segment,
-                    service,
-                    tariff,
-                },
-            ) => {
-                let bits = SERVICE.put(of_segment(Kind::Segment, segment)?, service)?;
-                TARIFF.put(bits, tariff)
+            Word::Segment(given) => {
+                let bits = SERVICE.put(of_segment(Kind::Segment, given.segment)?, given.service)?;
+                TARIFF.put(bits, given.tariff)
             }
             Word::Factor { segment, factor } => PER_MILLE.put(
                 of_segment(Kind::Factor, segment)?,
@@ -89,15 +83,9 @@ impl Word {
                 let bits = STATION.put(bits, station)?;
                 METER_NUMBER.put(bits, meter)
             }
-            Word::Select(
-                Spot {
-                    segment,
-                    meter,
-                    hour,
-                },
-            ) => {
-                let bits = METER_NAMED.put(of_segment(Kind::Select, segment)?, meter)?;
-                HOUR.put(bits, hour)
+            Word::Select(spot) => {
+                let bits = METER_NAMED.put(of_segment(Kind::Select, spot.segment)?, spot.meter)?;
+                HOUR.put(bits, spot.hour)
             }
             Word::Amount { amount } => KWH.put(Kind::Amount.bits(), amount),
             Word::Carried { meter, amount } => {

@@ -1,19 +1,13 @@
 // The worked file of July 2022, fields at their limits, spare bits, and windows.
-use crate::{SegmentWord, Spot, Window, Word, collect_words};
+use crate::{Window, Word, collect_words};
 use std::process::Abort;
 use std::test::Fail;
 
-// The kind of a word and its fields, from the highest bits down.
+// The kind of a word and its fields, from the highest bits down: a table of words would take a line for each field.
 fn kind_and_fields(word: Word) -> [u32; 5] {
     match word {
         Word::Period { year, month, hours } => [1, year, month, hours, 0],
-        Word::Segment(
-            SegmentWord {
-                segment,
-                service,
-                tariff,
-            },
-        ) => [2, segment, service, tariff, 0],
+        Word::Segment(given) => [2, given.segment, given.service, given.tariff, 0],
         Word::Factor { segment, factor } => [3, segment, factor, 0, 0],
         Word::Meter {
             segment,
@@ -21,13 +15,7 @@ fn kind_and_fields(word: Word) -> [u32; 5] {
             station,
             meter,
         } => [4, segment, user, station, meter],
-        Word::Select(
-            Spot {
-                segment,
-                meter,
-                hour,
-            },
-        ) => [5, segment, meter, hour, 0],
+        Word::Select(spot) => [5, spot.segment, spot.meter, spot.hour, 0],
         Word::Amount { amount } => [6, amount, 0, 0, 0],
         Word::Carried { meter, amount } => [7, meter, amount, 0, 0],
     }

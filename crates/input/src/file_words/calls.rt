@@ -26,7 +26,7 @@ impl<R: Read> FileWords<R> {
     }
 
     // The next word with its number, or nothing at the input's end. An input with more words than can be numbered fails.
-    // An Iterator must be Drop, so that each caller would have to promise `R: Drop`.
+    // No Iterator: it would be one more type, which borrows this one and has to end after a word that cannot be numbered.
     pub fn next(&mut self) -> io::Result<Option<(u64, u32)>>
         ensures { NextGiven self.old result self.new }
     {

@@ -14,7 +14,8 @@ use calendar::Period;
 use std::alloc::Global;
 
 impl Plan {
-    // An empty plan. Which contents calls can make of it, and that these are the well-made ones, is stated here once for all of them.
+    // An empty plan. Which contents calls can make of it, and that these are the well-made ones, is stated here once for all
+    // of them.
     pub fn new(heap: Global) -> Plan
         ensures empty { contents result ≡ nothing }
         ensures made { MadeByCalls }
@@ -27,8 +28,8 @@ impl Plan {
         }
     }
 
-    // The numbers come one by one, here and in `add_segment`: the structs that hold them, `Period` and `Terms`, are made only once
-    // they are judged, and a struct of bare numbers beside each would be no plainer.
+    // The numbers come one by one, here and in `add_segment`: `Period` and `Terms` are made only once they are judged, and no
+    // caller has another struct of them.
     pub fn set_period(&mut self, year: u32, month: u32, hours: u32) -> Result<(), PlanFault>
         ensures answer { Answered (contents self.old) (SetPeriod (record { year = year; month = month; hours = hours })) result (contents self.new) }
         ensures memory { result ≢ Err Memory }

@@ -2,11 +2,12 @@ use Rattle.std.proofs.Common.{◌≡◌, ℕ, List, ◌++◌, length, take, drop
 use Rattle.plan.specs.Contents.{Contents}
 use Rattle.plan.specs.OfPlan.{contents}
 use Rattle.plan.specs.declared.booking.Booking.{Booking}
+use Rattle.plan.specs.declared.plan.Plan.{Plan}
 use Rattle.monthfile.specs.File.{file_of, file_words}
 use Rattle.monthfile.specs.Inverse.{Fileable}
 use Rattle.monthfile.proofs.Entire.{file_and_reading}
 use Rattle.monthwriter.specs.declared.placing.Output.{Output}
-use Rattle.monthwriter.specs.Placing.{WordsPut}
+use Rattle.monthwriter.specs.Placing.{RoomFor, WordsPut}
 use Rattle.monthwriter.specs.Refusals.{write_refusal}
 use Rattle.monthwriter.specs.Written.{FileWritten, ReadsBack}
 use Rattle.monthwriter.proofs.Filed.{file_room}
@@ -28,23 +29,30 @@ written plan bs {memory} {start} {end} {size} {left} fileable none front untouch
     let front : take size left ≡ file_of plan bs = ap (λ k. take k left) long ∙ ap (take end.next) is ∙ file.2 in
     ((none, long ∙ file.0, stands), subst (ReadsBack plan bs) (sym front) (file_reads_back plan bs fileable))
 
-pub returns-in_err-check-clause-inverse : goal.returns-in_err-check-clause-inverse
-returns-in_err-check-clause-inverse c = file_and_reading
+-- the words of a file are those of its plan and its bookings
+same_words : {made plan : Plan} {held bs : List Booking} → made ≡ plan → held ≡ bs → file_words (contents made) held ≡ file_words (contents plan) bs
+same_words plan bookings = cc
 
-pub put_file-requires-clause-room : goal.put_file-requires-clause-room
-put_file-requires-clause-room c =
+pub returns-in_err-file-clause-inverse : goal.returns-in_err-file-clause-inverse
+returns-in_err-file-clause-inverse c = file_and_reading
+
+pub put-requires : goal.put-requires
+put-requires c =
     let plan = contents c.args.plan.now in
     let bs = c.args.bookings.now in
-    let grants = granted plan bs (length c.args.out.now) c.in_ok-check.ensures in
-    file_room plan bs c.new-file.result c.args.plan.now.well_made grants.held c.new-file.ensures.front
-    (omega (arith, grants.long, ap length c.new-file.ensures.untouched))
+    let checked = c.in_ok-file.ensures in
+    let grants = granted plan bs (length c.args.out.now) checked.0 in
+    subst (RoomFor c.new-output.result) (same_words (sym checked.1) (sym checked.2))
+    (file_room plan bs c.new-output.result c.args.plan.now.well_made grants.held c.new-output.ensures.front
+    (omega (arith, grants.long, ap length c.new-output.ensures.untouched)))
 
 pub returns : goal.returns
 returns c =
     let plan = contents c.args.plan.now in
     let bs = c.args.bookings.now in
-    let none = c.in_ok-check.ensures in
-    let grants = granted plan bs (length c.args.out.now) none in
+    let checked = c.in_ok-file.ensures in
+    let grants = granted plan bs (length c.args.out.now) checked.0 in
     let fileable : Fileable plan bs = record { made = c.args.plan.now.well_made; full = grants.full; held = all_held bs grants.held } in
-    let file = written plan bs fileable none c.new-file.ensures.front (search rules) c.put_file.ensures c.length.ensures (search rules) in
+    let put = subst (λ words. WordsPut c.new-output.result words c.put.new.out) (same_words checked.1 checked.2) c.put.ensures in
+    let file = written plan bs fileable checked.0 c.new-output.ensures.front (search rules) put c.length.ensures (search rules) in
     record { answer = file.0; back = file.1; inverse = file_and_reading }
