@@ -20,7 +20,7 @@ fn dump_word(reader: &mut Reader, place: u64, bits: u32, text: &mut String) -> R
 }
 
 // Takes the words of a block, the first of them at this place, and adds a line to the text for each record, up to the first
-// fault.
+// fault. Block and place come apart, as callers have them.
 pub fn dump_block(
     reader: &mut Reader,
     block: &[u8],

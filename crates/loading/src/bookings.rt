@@ -39,7 +39,7 @@ impl<A: WeightSource, B: WeightSource, C: WeightSource, D: WeightSource> Booking
     fn book_words<R: Read>(&mut self, file: &mut FileWords<R>) -> Result<(), LoadFault>
         ensures { AfterWords self.old (λ joins words. BooksRead joins words file.old file.new (held self.new) result) }
     {
-        // No `for`: reading may fail at each word, and what is left of the file is asked after the last.
+        // No `for`: `FileWords::next` says why the words of a file are no Iterator.
         while let Some((place, bits)) = file.next()? {
             self.book_word(place, bits)?;
         }

@@ -26,6 +26,7 @@ impl LoadFault {
     {
         match self {
             LoadFault::Reading(below) => below.told(),
+            // Each case names its layer and the fault below that has the number; no two are alike.
             LoadFault::Opening(below) => Some(Told {
                 layer: Layer::Plan,
                 number: below.fault.number()?,

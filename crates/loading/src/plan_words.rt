@@ -17,7 +17,7 @@ pub(crate) fn read_plan<R: Read>(
     requires { standing_of reader.old ≡ beginning }
     ensures { PlanRead file.old file.new (standing_of reader.new) result }
 {
-    // No `for`: reading may fail at each word, and what is left of the file is asked after the last.
+    // No `for`: `FileWords::next` says why the words of a file are no Iterator.
     while let Some((place, bits)) = file.next()? {
         if let Brought::Opening = reader.step(place, bits)? {
             return Ok(Some(place));

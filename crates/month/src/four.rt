@@ -79,8 +79,8 @@ impl<A: WeightSource, B: WeightSource, C: WeightSource, D: WeightSource> Four<A,
         }
     }
 
-    /// Books in the segment's book. The match stands here and in `missing_in`: the books differ in type, so no value can stand
-    /// for any of them.
+    /// Books in the segment's book. The match stands here and in `missing_in`: the books differ in type, so no value can
+    /// stand for any of them.
     pub(crate) fn book_in(&mut self, segment: Segment, booking: &Booking) -> Result<(), BookFault>
         ensures booked { Booked (book_joins self.old (segment_number segment)) (books_of self.old (segment_number segment)) booking.now.meter booking.now.hour booking.now.amount result (books_of self.new (segment_number segment)) }
         ensures others { (s : ℕ) → s < most_segments → (s ≢ segment_number segment) → books_of self.new s ≡ books_of self.old s }

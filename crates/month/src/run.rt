@@ -24,6 +24,7 @@ impl<A: WeightSource, B: WeightSource, C: WeightSource, D: WeightSource> Open<Mo
         ensures memory { OnErr result (self.new ≡ self.old) }
         ensures rearranged { AsStands (state_of self.old.0) (λ terms bookings. Rearranges terms) }
     {
+        // A loop, over memory that was had first: collecting would ask for it between two calls.
         let mut answers = Vec::with_capacity(heap, calls.len())?;
         for call in calls {
             answers.push_reserved(self.answer(call));

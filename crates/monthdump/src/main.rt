@@ -1,5 +1,5 @@
-// Shows a month file from standard input: a line for each record as its words are judged. At a fault its line is the last, and
-// the status is 1.
+// Shows a month file from standard input: a line for each record as its words are judged. At a fault its line is the
+// last, and the status is 1.
 #![tactic(auto)]
 
 use anyhow::{Context, anyhow};

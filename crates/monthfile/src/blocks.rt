@@ -31,8 +31,8 @@ impl Reader {
         Ok(())
     }
 
-    // Reads the words of a block, the first of them at this place, and adds their bookings to the list, up to the first fault.
-    // Block and place come apart, as callers have them; the struct of both is the window.
+    // Reads the words of a block, the first of them at this place, and adds their bookings to the list, up to the first
+    // fault. Block and place come apart, as callers have them; the struct of both is the window.
     pub fn read_block(
         &mut self,
         block: &[u8],
@@ -48,7 +48,7 @@ impl Reader {
         Ok(())
     }
 
-    // Judges the file's end: after this many whole words, with this many bytes left over, two counts that callers have apart.
+    // Judges the file's end: after this many whole words, with this many bytes left over. Callers have the counts apart.
     pub fn check_end(&self, words: u64, left_over: usize) -> Result<(), ReadFault>
         ensures { MatchResult result (λ _. end_fault (standing_of self.now) words left_over ≡ None) (λ fault. told fault ≡ end_fault (standing_of self.now) words left_over) }
     {

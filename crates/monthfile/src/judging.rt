@@ -43,8 +43,8 @@ impl Reader {
         mem::replace(&mut self.plan, Plan::new(heap))
     }
 
-    // Judges the bits of the word at this place: what it brings, or its fault, which leaves the reader where it stood. Place and
-    // bits come apart, as callers have them.
+    // Judges the bits of the word at this place: what it brings, or its fault, which leaves the reader where it stood. A pair
+    // of place and bits would only be taken apart again.
     pub fn step(&mut self, place: u64, bits: u32) -> Result<Brought, ReadFault>
         ensures { Stepped (standing_of self.old) place bits result (standing_of self.new) }
     {
@@ -139,8 +139,8 @@ impl Reader {
         Ok(Brought::Nothing)
     }
 
-    // One function for each call on the plan, here and above: the contract names the call and the phase after it, and what the
-    // bodies share is three short lines.
+    // One function for each call on the plan, here and above: the contract names the call and the phase after it, and what
+    // the bodies share is three short lines.
     fn take_meter(&mut self, place: u64, meter: Meter) -> Result<Brought, ReadFault>
         ensures { JudgedByPlan (standing_of self.old) place (AddMeter meter) (λ _. Meters) result (standing_of self.new) }
     {
@@ -179,6 +179,7 @@ impl Reader {
             hour: spot.hour + 1,
             ..spot
         });
+        // No `From` can stand for this: the spot is of words, the booking of plan.
         Ok(Brought::Offtake(Booking {
             segment: spot.segment,
             meter: spot.meter,

@@ -32,8 +32,8 @@ impl PlanFault {
     }
 }
 
-// The first check that fails gives the answer. One function of three answers, as `first_fault` is: guards in each caller would
-// write the order of the checks again.
+// The first check that fails gives the answer. One function of three answers, as `first_fault` is: guards in each caller
+// would write the order of the checks again.
 pub(crate) fn judge(ordered: bool, within: bool, assigned: bool) -> Result<(), PlanFault>
     ensures { Checked (first_fault ordered within assigned) result }
 {

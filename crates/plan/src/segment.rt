@@ -10,7 +10,7 @@ pub enum Segment {
     Eav = 3,
 }
 
-// A number that no segment has.
+// A number that no segment has. A type of its own, as each enum has one that numbers name.
 #[derive(Clone, Copy, PartialEq, Eq, Debug)]
 pub struct UnknownSegment(pub u32);
 

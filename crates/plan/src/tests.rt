@@ -28,7 +28,8 @@ fn made(plan: &mut Plan, call: Call) -> Result<(), PlanFault> {
     }
 }
 
-// Makes the calls, each of which is to be answered with its number, or with 0 where it is taken: the values of the tables below.
+// Makes the calls, each of which is to be answered with its number, or with 0 where it is taken: the values of the tables
+// below.
 fn answered(rt: &impl Abort, plan: &mut Plan, calls: &[(Call, u8)]) -> Result<(), Fail> {
     for (call, number) in calls {
         let told = match made(plan, *call) {

@@ -35,6 +35,7 @@ impl<R: Read> Blocks<R> {
         self.first = self.words();
         self.more = false;
         self.bytes.resize(BLOCK, 0).unwrap();
+        // A match: with `inspect_err` it stays open how long the block is then.
         match fill(&mut self.input, self.bytes.as_mut_slice()) {
             Ok(held) => {
                 self.bytes.truncate(held);

@@ -28,8 +28,8 @@ impl Plan {
         }
     }
 
-    // The numbers come one by one, here and in `add_segment`: `Period` and `Terms` are made only once they are judged, and no
-    // caller has another struct of them.
+    // The numbers come one by one, here and in `add_segment`: `Period` and `Terms` are made only once they are judged, and
+    // no caller has a struct of just these.
     pub fn set_period(&mut self, year: u32, month: u32, hours: u32) -> Result<(), PlanFault>
         ensures answer { Answered (contents self.old) (SetPeriod (record { year = year; month = month; hours = hours })) result (contents self.new) }
         ensures memory { result ≢ Err Memory }

@@ -1,4 +1,5 @@
-// The checks of the calls that fill a plan. The first that fails is the answer: order, then values, then an unassigned meter.
+// The checks of the calls that fill a plan. The first that fails is the answer: order, then values, then an unassigned
+// meter.
 ghost use Rattle.std.specs.Prelude.{◌≡◌, IfOk};
 ghost use Rattle.plan.specs.Calls.{AddCarried, AddMeter, AddSegment, refusal_of};
 ghost use Rattle.plan.specs.Faults.{Checked};

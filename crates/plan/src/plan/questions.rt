@@ -37,7 +37,8 @@ impl Plan {
         self.period
     }
 
-    // Here and below segments and meters are asked for by number, since a caller may name one that is none.
+    // Here and below segments and meters are asked for by number, since a caller may name one that is none, and one by one:
+    // a pair would be made for the question alone.
     pub fn terms(&self, segment: u32) -> Option<Terms>
         ensures { option_map segment_numbers result ≡ terms_of (contents self.now) segment }
     {
