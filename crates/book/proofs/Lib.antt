@@ -3,3 +3,4 @@ pub mod Marking
 pub mod Counting
 pub mod Lookup
 pub mod Bounds
+pub mod Alike

@@ -4,4 +4,5 @@ pub mod Marks
 pub mod Faults
 pub mod Contents
 pub mod Answers
+pub mod Lending
 pub mod OfBook

@@ -16,13 +16,16 @@ pub struct Book<S: WeightSource> {
 }
 
 impl<S: WeightSource> Book<S> {
-    ghost use Rattle.std.specs.Prelude.{◌≡◌, ◌-◌, ◌≤◌, IfOk, MatchResult, slice_index};
+    ghost use Rattle.std.specs.Prelude.{◌≡◌, ◌-◌, ◌≤◌, IfErr, IfOk, MatchResult, slice_index};
     ghost use Rattle.weights.specs.Answers.{ask_refusal, zero_weights};
     ghost use Rattle.book.specs.Answers.{Answered, Booked, Carried, Opened};
     ghost use Rattle.book.specs.Contents.{count_at, lacked_below, marked_at, sum_at, words_at};
+    ghost use Rattle.book.specs.Faults.{IsOfSource};
     ghost use Rattle.book.specs.Limits.{greatest_sum};
     ghost use Rattle.book.specs.Marks.{EndsBy};
     ghost use Rattle.book.specs.OfBook.{book_contents};
+    ghost use Rattle.book.specs.declared.fault.BookFault.TheVariants.{OutOfRange, Source};
+    ghost use Rattle.weights.specs.declared.fault.WeightFault.TheVariants.{TooHeavy};
 
     /// Opens a book over the source, which is reset. Want of memory hands the source back, reset.
     pub fn open(heap: Global, mut source: S) -> Result<Book<S>, (AllocError, S)>
@@ -42,6 +45,7 @@ impl<S: WeightSource> Book<S> {
     pub fn carry(&mut self, meter: u64, amount: u64) -> Result<(), BookFault>
         ensures carried { Carried (S.joining self.old.source) (book_contents self.old) meter amount result (book_contents self.new) }
         ensures joining { S.joining self.new.source ≡ S.joining self.old.source }
+        ensures fault { IfErr result IsOfSource }
     {
         Ok(self.source.note(meter, amount)?)
     }
@@ -51,6 +55,7 @@ impl<S: WeightSource> Book<S> {
     pub fn book(&mut self, meter: u64, hour: u64, amount: u64) -> Result<(), BookFault>
         ensures booked { Booked (S.joining self.old.source) (book_contents self.old) meter hour amount result (book_contents self.new) }
         ensures joining { S.joining self.new.source ≡ S.joining self.old.source }
+        ensures fault { IfErr result (λ fault. IsOfSource fault → fault ≡ Source TooHeavy) }
     {
         if meter >= METERS as u64 || hour >= HOURS as u64 || amount > MAX_AMOUNT {
             return Err(BookFault::OutOfRange);
@@ -68,6 +73,7 @@ impl<S: WeightSource> Book<S> {
     pub fn missing(&self, meter: u64, hours: u64) -> Result<u64, BookFault>
         ensures answer { Answered (ask_refusal meter) (hours - count_at (book_contents self.now) meter) result }
         ensures lacked { IfOk result (λ n. EndsBy (words_at (book_contents self.now) meter) hours → n ≡ lacked_below (book_contents self.now) meter hours) }
+        ensures fault { IfErr result (λ fault. fault ≡ OutOfRange) }
     {
         let count = self
             .tables
@@ -93,7 +99,8 @@ impl<S: WeightSource> Book<S> {
 
     /// The meter's weight. Refused with 3 for a meter above 63.
     pub fn weight(&self, meter: u64) -> Result<u64, BookFault>
-        ensures { Answered (ask_refusal meter) (slice_index (S.weights self.now.source) meter) result }
+        ensures answer { Answered (ask_refusal meter) (slice_index (S.weights self.now.source) meter) result }
+        ensures fault { IfErr result IsOfSource }
     {
         Ok(self.source.weight(meter)?)
     }

@@ -1,6 +1,7 @@
 //! A segment's book: which hours of each meter are booked, the sum of each hour, and a weight source of any kind.
 #![tactic(auto)]
 
+mod arrays;
 mod book;
 mod fault;
 mod limits;

@@ -2,6 +2,7 @@ ghost use Rattle.std.specs.Prelude.{◌≡◌, length};
 ghost use Rattle.weights.specs.Limits.{meter_count};
 ghost use Rattle.book.specs.Limits.{hour_count};
 
+use crate::arrays::element;
 use crate::limits::HOURS;
 use crate::row::Row;
 use std::alloc::{AllocError, Global};
@@ -17,10 +18,12 @@ pub(crate) struct Tables {
 }
 
 impl Tables {
-    ghost use Rattle.std.specs.Prelude.{ℕ, ◌+◌, ◌^◌, ◌<◌, ◌≤◌, ◌||◌, false, IfOk, MatchOption, ◌==◌, slice_index, slice_set};
+    ghost use Rattle.std.specs.Borrow.{sem};
+    ghost use Rattle.std.specs.Prelude.{ℕ, ◌+◌, ◌^◌, ◌<◌, ◌≤◌, ◌||◌, false, IfOk, MatchOption, ◌==◌, slice_get, slice_index, slice_set, Some};
     ghost use Rattle.weights.specs.Answers.{zero_weights};
     ghost use Rattle.book.specs.Answers.{Opened};
     ghost use Rattle.book.specs.Contents.{contents_of, marks_of, words_of};
+    ghost use Rattle.book.specs.Lending.{LendsRow};
     ghost use Rattle.book.specs.Marks.{EndsBy, is_marked, marked_below, ones_of};
 
     /// No hour is marked, and every sum is zero.
@@ -64,7 +67,16 @@ impl Tables {
         ensures ones { ones_of (words_of self.new meter) ≡ ones_of (words_of self.old meter) + 1 }
         ensures sums { self.new.sums.value ≡ slice_set self.old.sums.value hour (slice_index self.old.sums.value hour + amount) }
     {
-        self.rows[meter].mark(hour);
+        self.row(meter).mark(hour);
         self.sums[hour] += amount;
+    }
+
+    /// The meter's row, lent to be changed.
+    fn row(&mut self, meter: usize) -> &mut Row
+        requires { meter < meter_count }
+        ensures* writes_back { sem 𝓛 (LendsRow self.entry meter result) }
+        ensures value { slice_get self.old.rows.value meter ≡ Some result.now }
+    {
+        element(&mut self.rows, meter)
     }
 }

@@ -21,7 +21,7 @@ use Rattle.month.specs.Faults.{number_of}
 use Rattle.month.specs.Stands.{Stands, State}
 use Rattle.month.specs.Terms.{Terms, hours_of}
 use Rattle.month.specs.declared.fault.BookingFault.{BookingFault}
-use Rattle.month.proofs.Within.{booked_within}
+use Rattle.month.proofs.Within.{booked_within, missing_lacked}
 
 meter_below : (segment meter : ℕ) (o : Option ℕ) →
     cond (meter_within segment meter) o (Some 3) ≡ None →
@@ -43,6 +43,7 @@ answered terms bookings segment meter state s admitted hours missing h e =
       subst (λ (plan : PlanContents). refused_or plan (meter_within segment meter) segment meter None ≡ None) s.contents (admitted None),
       omega (arith, h, e, all, count),
       omega (arith, h, e, all, count, within),
+      omega (arith, h, e, all, count) ∙ missing_lacked terms bookings s.taken segment meter,
     )
 
 -- the plan assigns each of its meters, and they lie within their limits

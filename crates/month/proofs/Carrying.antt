@@ -5,7 +5,7 @@ use Rattle.std.specs.List.{list_all}
 use Rattle.std.proofs.lemmas.List.{drop_more, get_or-replicate, get_or-set_other, get_or-set_same, take-append-drop, take_more}
 use Rattle.std.proofs.lemmas.Bool.{and_parts, both_ways, cases_Bool, cases_eq, cond-false, cond-true, eq-eqb, ne_eqb}
 use Rattle.std.proofs.lemmas.Bool.Decides.{nat_tests}
-use Rattle.book.specs.Answers.{Opened, joined_with}
+use Rattle.book.specs.Answers.{Opened, joined_with, weights_with}
 use Rattle.book.specs.Contents.{Contents as BookContents}
 use Rattle.plan.specs.Calls.{peak_fits, peak_precedes}
 use Rattle.plan.specs.Limits.{most_meters}
@@ -17,7 +17,12 @@ use Rattle.plan.proofs.Within.{PeakWithin, peak_within}
 use Rattle.weights.specs.Accepted.{joined_all}
 use Rattle.weights.specs.Answers.{note_refusal}
 use Rattle.weights.specs.Limits.{greatest_amount, greatest_weight, meter_count}
-use Rattle.month.specs.Opening.{PeaksNoted, peaks_light, with_peak}
+use Rattle.month.specs.Opening.{PeaksNoted, peaks_light}
+
+-- what a book holds once one peak more is joined to its meter's weight
+abbrev pub with_peak : (join : ℕ → ℕ → ℕ) → BookContents → CarriedPeak → BookContents
+with_peak join book peak =
+    record { marks = book.marks; sums = book.sums; weights = weights_with join book peak.meter peak.amount }
 
 -- one more at the end of a list that is searched
 module _ {X : Type 0} (test : X → Bool) (x : X) where

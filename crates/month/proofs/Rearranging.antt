@@ -83,6 +83,7 @@ module _ (terms : Terms) (bookings others : List Booking) (d : Perm bookings oth
     weights = λ segment meter l. weight-same segment meter (swaps segment l);
     hours = λ segment meter hour.
         ap (ltb 0) (sum_by-perm (λ (b : Booking). cond (is_of_hour segment meter hour b) 1 0) bookings others d);
+    counts = λ segment meter. sum_by-perm (λ (b : Booking). cond (is_of segment meter b) 1 0) bookings others d;
     sums = λ segment hour.
         sum_by-perm (λ (b : Booking). b.amount) (filter (is_at segment hour) bookings) (filter (is_at segment hour) others)
         (kept_perm (is_at segment hour) bookings others d);

@@ -1,10 +1,11 @@
 -- Calls made one after another.
-use Rattle.std.proofs.Common.{ℕ, ◌+◌, ◌<◌, List, [], ◌∷◌, ◌++◌, length, get_or, take, sym, subst, Result}
+use Rattle.std.proofs.Common.{◌≡◌, ℕ, ◌+◌, ◌<◌, true, false, not, List, [], ◌∷◌, ◌++◌, length, get_or, take, sym, refl, ◌∙◌, subst, arith, Result}
+use Rattle.std.proofs.lemmas.Bool.{and_from, and_parts}
 use Rattle.std.proofs.lemmas.List.{take_more}
 use Rattle.std.proofs.lemmas.List.Sums.{fold_more}
 use Rattle.plan.specs.declared.booking.Booking.{Booking}
-use Rattle.month.specs.Calls.{Answers, AnswersEach, accepted_from, after_call}
-use Rattle.month.specs.Stands.{Stands, State}
+use Rattle.month.specs.Calls.{Answers, AnswersEach, accepted_from, after_call, is_booked, none_booked}
+use Rattle.month.specs.Stands.{Stands, State, Unchanged}
 use Rattle.month.specs.Terms.{Terms}
 use Rattle.month.specs.declared.call.Answer.{Answer}
 use Rattle.month.specs.declared.call.Call.{Call}
@@ -37,3 +38,21 @@ next_call terms bookings calls i d answers answer before after inside so_far nex
       subst (λ (cs : List Call). AnswersEach terms bookings cs (answers ++ answer ∷ [])) (sym (take_more calls i d inside))
           (answers_push terms bookings (take i calls) answers (get_or calls i d) answer so_far.1 here.0),
     )
+
+-- where no answer tells of an accepted booking, none of those before the last does, nor does the last
+pub none_booked_push : (answers : List (Result Answer BookingFault)) (answer : Result Answer BookingFault) →
+    none_booked (answers ++ answer ∷ []) ≡ true →
+    (none_booked answers ≡ true) × (is_booked answer ≡ false)
+none_booked_push [] answer e = (refl, grind arith)
+none_booked_push (a ∷ rest) answer e =
+    let both = and_parts (not (is_booked a)) (none_booked (rest ++ answer ∷ [])) e in
+    let next = none_booked_push rest answer both.1 in
+    (and_from (not (is_booked a)) (none_booked rest) both.0 next.0, next.1)
+
+-- nothing has changed, and then nothing again
+pub unchanged_then : (before then after : State) → Unchanged before then → Unchanged then after → Unchanged before after
+unchanged_then before then after first next = record {
+  contents = next.contents ∙ first.contents;
+  joins = next.joins ∙ first.joins;
+  books = λ segment l. next.books segment l ∙ first.books segment l;
+}

@@ -1,4 +1,4 @@
--- A meter has no more accepted bookings than the month has hours.
+-- A meter has no more accepted bookings than the month has hours; the hours left are those that no booking is for.
 use Rattle.std.proofs.Common.{◌≡◌, ℕ, zero, suc, ◌+◌, ◌<◌, ◌≤◌, Bool, true, false, cond, ◌&&◌, ◌||◌, eqb, ltb, leb, List, [], ◌∷◌, ◌++◌, map, is_some, Some, None, count_by, Option, sym, refl, ap, ◌∙◌, subst, ⊎_elim, zero-add, arith}
 use Rattle.std.specs.List.{range_with_len}
 use Rattle.std.proofs.lemmas.List.Sums.{sum_by-cons}
@@ -7,7 +7,7 @@ use Rattle.std.proofs.lemmas.Bool.Decides.{nat_tests}
 use Rattle.book.proofs.Counting.{below_not}
 use Rattle.plan.specs.Limits.{greatest_amount, most_meters, most_segments}
 use Rattle.plan.specs.declared.booking.Booking.{Booking}
-use Rattle.month.specs.Bookings.{booked_of, booking_refusal, booking_within, has_hour, is_assigned, is_of}
+use Rattle.month.specs.Bookings.{booked_of, booking_refusal, booking_within, has_hour, is_assigned, is_of, lacked_of, missing_of}
 use Rattle.month.specs.Calls.{accepted, accepted_from, after_call}
 use Rattle.month.specs.Terms.{Terms, hours_of}
 use Rattle.month.specs.declared.call.Call.{Call}
@@ -155,12 +155,17 @@ once_from terms bookings [] once = once
 once_from terms bookings (call ∷ calls) once =
     once_from terms (after_call terms bookings call) calls (once_after terms bookings call once)
 
-pub booked_within : (terms : Terms) (bookings : List Booking) →
-    accepted terms (map Book bookings) ≡ bookings →
-    (segment meter : ℕ) →
-    booked_of bookings segment meter ≤ hours_of terms.contents
-booked_within terms bookings taken segment meter =
-    let hours = hours_of terms.contents in
-    let none : EachHourOnce terms [] = λ s m. sym (count_none 0 hours) in
-    let once : EachHourOnce terms bookings = subst (EachHourOnce terms) taken (once_from terms [] (map Book bookings) none) in
-    omega (arith, once segment meter, below_not (has_hour bookings segment meter) hours)
+module _ (terms : Terms) (bookings : List Booking) (taken : accepted terms (map Book bookings) ≡ bookings) where
+  once : EachHourOnce terms bookings
+  once =
+      let none : EachHourOnce terms [] = λ s m. sym (count_none 0 (hours_of terms.contents)) in
+      subst (EachHourOnce terms) taken (once_from terms [] (map Book bookings) none)
+
+  pub booked_within : (segment meter : ℕ) → booked_of bookings segment meter ≤ hours_of terms.contents
+  booked_within segment meter =
+      omega (arith, once segment meter, below_not (has_hour bookings segment meter) (hours_of terms.contents))
+
+  -- the hours that are left are those that no booking is for
+  pub missing_lacked : (segment meter : ℕ) → missing_of terms bookings segment meter ≡ lacked_of terms bookings segment meter
+  missing_lacked segment meter =
+      omega (arith, once segment meter, below_not (has_hour bookings segment meter) (hours_of terms.contents))

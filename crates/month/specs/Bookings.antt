@@ -1,6 +1,7 @@
 -- What a list of accepted bookings makes of a month: each meter's hours and weight, each hour's sum, and which booking
 -- or question is refused next.
-use Rattle.std.specs.Prelude.{◌≡◌, ℕ, ◌-◌, Bool, cond, ◌&&◌, List, ◌++◌, map, is_some, Some, None, Ok, Err, sum_by, count_by, filter, Option, Result, ◌==◌, nat_le, nat_lt}
+use Rattle.std.specs.Prelude.{◌≡◌, ℕ, ◌-◌, Bool, cond, not, ◌&&◌, List, ◌++◌, map, is_some, Some, None, Ok, Err, sum_by, count_by, filter, Option, Result, ◌==◌, nat_le, nat_lt}
+use Rattle.std.specs.List.{range_with_len}
 use Rattle.book.specs.declared.fault.BookFault.TheVariants.{AlreadyBooked, Source}
 use Rattle.plan.specs.Contents.{Contents}
 use Rattle.plan.specs.Limits.{greatest_amount, most_meters, most_segments}
@@ -81,6 +82,11 @@ module _ (terms : Terms) (bookings : List Booking) where
   -- how many hours of the month a meter still misses
   abbrev pub missing_of : (segment meter : ℕ) → ℕ
   missing_of segment meter = hours_of terms.contents - booked_of bookings segment meter
+
+  -- how many of the month's hours no booking of the meter is for
+  abbrev pub lacked_of : (segment meter : ℕ) → ℕ
+  lacked_of segment meter =
+      count_by (λ hour. not (has_hour bookings segment meter hour)) (range_with_len 0 (hours_of terms.contents))
 
   -- what a booking is refused with by the meter's own bookings: 5 where it has the hour, then 6 where its weight joined
   -- with the amount would pass 15,000,000

@@ -1,7 +1,8 @@
 -- Calls on an open month, in any order: which bookings they accept, and what they answer.
-use Rattle.std.specs.Prelude.{◌≡◌, ℕ, ◌+◌, cond, List, [], ◌∷◌, ◌++◌, is_some, Some, None, Ok, Err, fold, Result}
+use Rattle.std.specs.Prelude.{◌≡◌, ℕ, ◌+◌, Bool, true, false, cond, not, List, [], ◌∷◌, ◌++◌, is_some, Some, None, Ok, Err, fold, Result}
+use Rattle.std.specs.List.{list_all}
 use Rattle.plan.specs.declared.booking.Booking.{Booking}
-use Rattle.month.specs.Bookings.{ask_refusal, booked_of, booking_refusal, missing_of}
+use Rattle.month.specs.Bookings.{ask_refusal, booked_of, booking_refusal, lacked_of, missing_of}
 use Rattle.month.specs.Faults.{number_of}
 use Rattle.month.specs.Terms.{Terms, hours_of}
 use Rattle.month.specs.declared.call.Answer.{Answer}
@@ -29,13 +30,14 @@ abbrev pub AnswersBooking : Terms → List Booking → Booking → Result (Unit 
 AnswersBooking terms bookings b (Ok _) = booking_refusal terms bookings b ≡ None
 AnswersBooking terms bookings b (Err fault) = booking_refusal terms bookings b ≡ Some (number_of fault)
 
--- what a question answers: the hours that the meter misses, which with its bookings make up the month, or the number of
--- its refusal
+-- what a question answers: the hours that the meter misses, which with its bookings make up the month and are as many as
+-- the hours that it has no booking of; or the number of its refusal
 abbrev pub AnswersQuestion : Terms → List Booking → (segment meter : ℕ) → Result ℕ BookingFault → Type 0
 AnswersQuestion terms bookings segment meter (Ok missing) =
     (ask_refusal terms.contents segment meter ≡ None)
     × (missing ≡ missing_of terms bookings segment meter)
     × (missing + booked_of bookings segment meter ≡ hours_of terms.contents)
+    × (missing ≡ lacked_of terms bookings segment meter)
 AnswersQuestion terms bookings segment meter (Err fault) = ask_refusal terms.contents segment meter ≡ Some (number_of fault)
 
 -- what a call answers
@@ -54,3 +56,13 @@ AnswersEach terms bookings [] (answer ∷ answers) = ⊥
 AnswersEach terms bookings (call ∷ calls) [] = ⊥
 AnswersEach terms bookings (call ∷ calls) (answer ∷ answers) =
     Answers terms bookings call answer × AnswersEach terms (after_call terms bookings call) calls answers
+
+-- is it the answer to an accepted booking
+abbrev pub is_booked : Result Answer BookingFault → Bool
+is_booked (Ok Booked) = true
+is_booked (Ok (Missing n)) = false
+is_booked (Err fault) = false
+
+-- do the answers tell of no accepted booking
+abbrev pub none_booked : List (Result Answer BookingFault) → Bool
+none_booked answers = list_all (λ answer. not (is_booked answer)) answers

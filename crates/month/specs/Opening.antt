@@ -3,7 +3,6 @@ use Rattle.std.specs.Prelude.{◌≡◌, ℕ, ◌<◌, Bool, true, cond, List, N
 use Rattle.std.specs.Option.{option_map, option_to_list}
 use Rattle.std.specs.List.{list_all}
 use Rattle.book.specs.declared.fault.BookFault.TheVariants.{Source}
-use Rattle.book.specs.Answers.{weights_with}
 use Rattle.book.specs.Contents.{Contents as BookContents}
 use Rattle.plan.specs.Limits.{amr, most_meters}
 use Rattle.plan.specs.Questions.{first_of, is_full}
@@ -20,12 +19,16 @@ use Rattle.month.specs.declared.fault.OpeningFault.TheVariants.{Memory, NotFull,
 abbrev pub peaks_light : (join : ℕ → ℕ → ℕ) → List CarriedPeak → Bool
 peaks_light join peaks = list_all (λ p. nat_le (join 0 p.amount) greatest_weight) peaks
 
+-- the number of a carried peak that cannot be noted
+abbrev pub peak_too_heavy : Option ℕ
+peak_too_heavy = opening_number_of (Peak (Source TooHeavy))
+
 -- The number that an opening is refused with, if any: 2 where the plan is not full, then 6 where a carried peak cannot be
 -- noted.
 abbrev pub opening_refusal : Terms → Option ℕ
 opening_refusal terms =
     cond (is_full terms.contents)
-    (cond (peaks_light (terms.joins amr) terms.contents.carried) None (opening_number_of (Peak (Source TooHeavy))))
+    (cond (peaks_light (terms.joins amr) terms.contents.carried) None peak_too_heavy)
     (opening_number_of NotFull)
 
 -- The fault is the one that the terms call for. The books are made before the peaks are noted, so want of memory says
@@ -34,11 +37,6 @@ abbrev pub RefusesOpening : Terms → OpeningFault → Type 0
 RefusesOpening terms NotFull = opening_refusal terms ≡ opening_number_of NotFull
 RefusesOpening terms (Peak fault) = opening_refusal terms ≡ opening_number_of (Peak fault)
 RefusesOpening terms Memory = is_full terms.contents ≡ true
-
--- what a book holds once one peak more is joined to its meter's weight
-abbrev pub with_peak : (join : ℕ → ℕ → ℕ) → BookContents → CarriedPeak → BookContents
-with_peak join book peak =
-    record { marks = book.marks; sums = book.sums; weights = weights_with join book peak.meter peak.amount }
 
 -- a book in which the peaks are noted: hours and sums are as they were, and each weight is zero joined with the peak
 pub record PeaksNoted (join : ℕ → ℕ → ℕ) (peaks : List CarriedPeak) (before after : BookContents) : Type 0 where

@@ -1,5 +1,6 @@
 -- What it means that a month's books stand as its terms and a list of accepted bookings say.
-use Rattle.std.specs.Prelude.{◌≡◌, ℕ, ◌<◌, List, map, None, slice_index}
+use Rattle.std.specs.Prelude.{◌≡◌, ℕ, ◌-◌, ◌<◌, List, map, None, ◌≢◌, slice_index}
+use Rattle.book.specs.Answers.{Entered}
 use Rattle.book.specs.Contents.{Contents as BookContents, count_at, marked_at, sum_at}
 use Rattle.book.specs.Limits.{hour_count}
 use Rattle.plan.specs.Contents.{Contents as PlanContents}
@@ -8,7 +9,7 @@ use Rattle.plan.specs.declared.booking.Booking.{Booking}
 use Rattle.month.specs.Bookings.{booked_of, has_hour, sum_of, weight_of}
 use Rattle.month.specs.Calls.{accepted}
 use Rattle.month.specs.Opening.{opening_refusal}
-use Rattle.month.specs.Terms.{Terms}
+use Rattle.month.specs.Terms.{Terms, hours_of}
 use Rattle.month.specs.declared.call.Call.TheVariants.{Book}
 
 -- what a month holds: its plan, and by segment the joining of the source and what the book holds
@@ -45,3 +46,16 @@ pub record Unchanged (before after : State) : Type 0 where
   pub contents : after.contents ≡ before.contents
   pub joins : after.joins ≡ before.joins
   pub books : (segment : ℕ) → segment < most_segments → after.books segment ≡ before.books segment
+
+-- what an accepted booking changes: in its segment's book one hour of its meter, that hour's sum and the meter's weight;
+-- the rest of the month is as it was
+pub record BookingEntered (before : State) (b : Booking) (after : State) : Type 0 where
+  pub contents : after.contents ≡ before.contents
+  pub joins : after.joins ≡ before.joins
+  pub entered :
+      Entered (before.joins b.segment) (before.books b.segment) b.meter b.hour b.amount (after.books b.segment)
+  pub others : (segment : ℕ) → segment < most_segments → (segment ≢ b.segment) → after.books segment ≡ before.books segment
+
+-- the hours of the month less the ones in the mark words of the meter
+abbrev pub unmarked_at : State → (segment meter : ℕ) → ℕ
+unmarked_at state segment meter = hours_of state.contents - count_at (state.books segment) meter

@@ -27,4 +27,4 @@ peaks_of terms segment meter = cond (segment == amr) (option_to_list (peak_of te
 -- one of four things, by the number of the segment
 abbrev pub by_segment : {X : Type 0} → (first second third fourth : X) (segment : ℕ) → X
 by_segment first second third fourth segment =
-    cond (segment == 0) first (cond (segment == 1) second (cond (segment == 2) third fourth))
+    cond (segment == amr) first (cond (segment == 1) second (cond (segment == 2) third fourth))

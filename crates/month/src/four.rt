@@ -1,4 +1,4 @@
-ghost use Rattle.std.specs.Prelude.{◌≡◌, ℕ, ◌-◌, ◌<◌, true, false, IfOk, Some, MatchResult, ◌≢◌};
+ghost use Rattle.std.specs.Prelude.{◌≡◌, ℕ, ◌-◌, ◌<◌, true, false, IfOk, MatchResult, ◌≢◌};
 ghost use Rattle.std.specs.List.{list_all};
 ghost use Rattle.book.specs.Answers.{Answered, Booked, Opened};
 ghost use Rattle.book.specs.Contents.{count_at};
@@ -10,7 +10,7 @@ ghost use Rattle.month.specs.Faults.{opening_number_of};
 ghost use Rattle.book.specs.OfBook.{book_contents};
 ghost use Rattle.plan.specs.Segments.{segment_number};
 ghost use Rattle.month.specs.OfMonth.{book_joins, books_of, held_sources, source_joins};
-ghost use Rattle.month.specs.Opening.{PeaksNoted, peaks_light};
+ghost use Rattle.month.specs.Opening.{PeaksNoted, peaks_light, peak_too_heavy};
 
 use crate::fault::OpeningFault;
 use crate::peaks::carry_peaks;
@@ -58,7 +58,7 @@ impl<A: WeightSource, B: WeightSource, C: WeightSource, D: WeightSource> Four<A,
         requires opened { (s : ℕ) → Opened (books_of self.old s) }
         requires fit { list_all peak_fits peaks.now ≡ true }
         requires ascend { ascending peak_precedes peaks.now ≡ true }
-        ensures noted { MatchResult result (λ _. PeaksNoted (book_joins self.old first_segment) peaks.now (books_of self.old first_segment) (books_of self.new first_segment)) (λ fault. opening_number_of fault ≡ Some 6) }
+        ensures noted { MatchResult result (λ _. PeaksNoted (book_joins self.old first_segment) peaks.now (books_of self.old first_segment) (books_of self.new first_segment)) (λ fault. opening_number_of fault ≡ peak_too_heavy) }
         ensures light { MatchResult result (λ _. peaks_light (book_joins self.old first_segment) peaks.now ≡ true) (λ _. peaks_light (book_joins self.old first_segment) peaks.now ≡ false) }
         ensures others { (s : ℕ) → (s ≢ first_segment) → books_of self.new s ≡ books_of self.old s }
         ensures joins { book_joins self.new ≡ book_joins self.old }

@@ -1,4 +1,4 @@
-ghost use Rattle.std.specs.Prelude.{◌≡◌, ℕ, true, [], Some, None, MatchResult, OnErr};
+ghost use Rattle.std.specs.Prelude.{◌≡◌, ℕ, true, [], Some, None, IfOk, MatchResult, OnErr, OnOk};
 ghost use Rattle.book.specs.Answers.{Opened};
 ghost use Rattle.plan.specs.OfPlan.{contents};
 ghost use Rattle.plan.specs.Questions.{is_full};
@@ -6,7 +6,7 @@ ghost use Rattle.month.specs.Bookings.{ask_refusal};
 ghost use Rattle.month.specs.Calls.{AnswersBooking, AnswersQuestion, after_call};
 ghost use Rattle.month.specs.Faults.{number_of};
 ghost use Rattle.month.specs.OfMonth.{NotOpened, books_of, held_sources, state_of, terms_of};
-ghost use Rattle.month.specs.Stands.{AsStands, Stands, Unchanged};
+ghost use Rattle.month.specs.Stands.{AsStands, BookingEntered, Stands, Unchanged, unmarked_at};
 ghost use Rattle.month.specs.declared.call.Call.TheVariants.{Book as BookCall};
 
 use crate::fault::{BookingFault, OpeningFault};
@@ -67,6 +67,7 @@ impl<A: WeightSource, B: WeightSource, C: WeightSource, D: WeightSource> Open<Mo
     /// meter has; then with 6 where the meter's weight would pass 15,000,000. A refusal changes nothing.
     pub fn book(&mut self, booking: Booking) -> Result<(), BookingFault>
         ensures answered { AsStands (state_of self.old.0) (λ terms bookings. AnswersBooking terms bookings booking result × Stands terms (after_call terms bookings (BookCall booking)) (state_of self.new.0)) }
+        ensures changed { OnOk result (BookingEntered (state_of self.old.0) booking (state_of self.new.0)) }
         ensures unchanged { OnErr result (Unchanged (state_of self.old.0) (state_of self.new.0)) }
     {
         let segment = self.0.check_booking(&booking)?;
@@ -77,6 +78,7 @@ impl<A: WeightSource, B: WeightSource, C: WeightSource, D: WeightSource> Open<Mo
     /// 4 for a meter that the plan does not assign. The segment is a number, since a caller may name one that is none.
     pub fn missing(&self, segment: u32, meter: u32) -> Result<u64, BookingFault>
         ensures answered { AsStands (state_of self.now.0) (λ terms bookings. AnswersQuestion terms bookings segment meter result) }
+        ensures counted { IfOk result (λ hours. hours ≡ unmarked_at (state_of self.now.0) segment meter) }
         ensures refusal { MatchResult result (λ _. ask_refusal (contents self.now.0.plan) segment meter ≡ None) (λ fault. ask_refusal (contents self.now.0.plan) segment meter ≡ Some (number_of fault)) }
     {
         let segment = self.0.check_meter(segment, meter)?;

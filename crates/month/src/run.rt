@@ -1,8 +1,8 @@
-ghost use Rattle.std.specs.Prelude.{◌≡◌, IfOk, OnErr};
-ghost use Rattle.month.specs.Calls.{Answers, AnswersEach, accepted_from, after_call};
+ghost use Rattle.std.specs.Prelude.{◌≡◌, true, false, IfOk, OnErr};
+ghost use Rattle.month.specs.Calls.{Answers, AnswersEach, accepted_from, after_call, is_booked, none_booked};
 ghost use Rattle.month.specs.Laws.{Rearranges};
 ghost use Rattle.month.specs.OfMonth.{state_of};
-ghost use Rattle.month.specs.Stands.{AsStands, Stands};
+ghost use Rattle.month.specs.Stands.{AsStands, Stands, Unchanged};
 
 use crate::call::{Answer, Call};
 use crate::fault::BookingFault;
@@ -21,6 +21,7 @@ impl<A: WeightSource, B: WeightSource, C: WeightSource, D: WeightSource> Open<Mo
         calls: &[Call],
     ) -> Result<Vec<Result<Answer, BookingFault>>, AllocError>
         ensures ran { IfOk result (λ answers. AsStands (state_of self.old.0) (λ terms bookings. Stands terms (accepted_from terms bookings calls.now) (state_of self.new.0) × AnswersEach terms bookings calls.now answers.items)) }
+        ensures unchanged { IfOk result (λ answers. none_booked answers.items ≡ true → Unchanged (state_of self.old.0) (state_of self.new.0)) }
         ensures memory { OnErr result (self.new ≡ self.old) }
         ensures rearranged { AsStands (state_of self.old.0) (λ terms bookings. Rearranges terms) }
     {
@@ -33,7 +34,8 @@ impl<A: WeightSource, B: WeightSource, C: WeightSource, D: WeightSource> Open<Mo
     }
 
     fn answer(&mut self, call: &Call) -> Result<Answer, BookingFault>
-        ensures { AsStands (state_of self.old.0) (λ terms bookings. Answers terms bookings call.now result × Stands terms (after_call terms bookings call.now) (state_of self.new.0)) }
+        ensures answered { AsStands (state_of self.old.0) (λ terms bookings. Answers terms bookings call.now result × Stands terms (after_call terms bookings call.now) (state_of self.new.0)) }
+        ensures unchanged { is_booked result ≡ false → Unchanged (state_of self.old.0) (state_of self.new.0) }
     {
         match *call {
             Call::Book(booking) => self.book(booking).map(|()| Answer::Booked),

@@ -7,8 +7,7 @@ use Rattle.book.specs.Faults.{number_of}
 use Rattle.plan.specs.declared.carried.CarriedPeak.{CarriedPeak}
 use Rattle.weights.specs.Answers.{note_refusal}
 use Rattle.book.specs.OfBook.{book_contents}
-use Rattle.month.specs.Opening.{with_peak}
-use Rattle.month.proofs.Carrying.{light_more, noted_more, noted_none, too_heavy}
+use Rattle.month.proofs.Carrying.{light_more, noted_more, noted_none, too_heavy, with_peak}
 use Rattle.month.proofs.peaks.carry_peaks.Goals as goal
 
 -- what the source refuses a peak with, by the joining that the book began with

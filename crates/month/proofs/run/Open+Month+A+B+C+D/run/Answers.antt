@@ -1,7 +1,7 @@
 -- Each turn answers one call more; the sources' joinings swap, so the order of bookings makes no difference.
-use Rattle.std.proofs.Common.{ℕ, ◌+◌, List, take, vec_items, sym, subst, arith, Result}
+use Rattle.std.proofs.Common.{◌≡◌, ℕ, ◌+◌, true, List, take, vec_items, sym, subst, arith, Result}
 use Rattle.weights.specs.Joining.{Swaps}
-use Rattle.month.specs.Calls.{AnswersEach}
+use Rattle.month.specs.Calls.{AnswersEach, none_booked}
 use Rattle.month.specs.OfMonth.{book_joins, state_of}
 use Rattle.month.specs.declared.call.Answer.{Answer}
 use Rattle.month.specs.declared.call.Call.{Call}
@@ -9,7 +9,7 @@ use Rattle.month.specs.declared.fault.BookingFault.{BookingFault}
 use Rattle.month.specs.declared.call.Call.TheVariants.{Book}
 use Rattle.month.specs.declared.four.Four.{Four}
 use Rattle.month.proofs.Rearranging.{rearranges}
-use Rattle.month.proofs.Running.{next_call}
+use Rattle.month.proofs.Running.{next_call, none_booked_push, unchanged_then}
 use Rattle.month.proofs.Taking.{by_segment-each}
 use Rattle.month.proofs.run.Open+Month+A+B+C+D.run.Given as given
 use Rattle.month.proofs.run.Open+Month+A+B+C+D.run.Goals as goal
@@ -39,11 +39,14 @@ loop-call-preserved g c =
           c.answer.result
           (state_of c.loop-call.self.0)
           (state_of c.answer.new.self.0)
-          c.loop-call-test.true (inv.0 terms bookings s) (c.answer.ensures terms)
+          c.loop-call-test.true (inv.0 terms bookings s) (c.answer.ensures.answered terms)
           in
           (next.0, subst (λ (l : List (Result Answer BookingFault)). AnswersEach terms bookings (take (c.loop-call.call-index + 1) c.args.calls.now) l) (sym items) next.1),
       omega (arith, c.push_reserved.ensures.len, inv.1),
       omega (arith, c.push_reserved.ensures.capacity, inv.2),
+      λ none.
+          let all = none_booked_push (vec_items c.loop-call.answers) c.answer.result (subst (λ l. none_booked l ≡ true) items none) in
+          unchanged_then _ _ _ (inv.3 all.0) (c.answer.ensures.unchanged all.1),
     )
 
 pub returns-clause-rearranged : goal.returns-clause-rearranged
