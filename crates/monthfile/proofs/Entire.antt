@@ -45,7 +45,7 @@ may_end_parts true false t e = absurd (none≢some (sym e))
 may_end_parts false b t e = absurd (none≢some (sym e))
 
 -- words that stop the reading stop it whatever follows
-stops : (first second : List (Option Word)) (before : Standing) (place : ℕ) (t : Told) → (reading before place first).fault ≡ Some t
+pub stops : (first second : List (Option Word)) (before : Standing) (place : ℕ) (t : Told) → (reading before place first).fault ≡ Some t
     → reading before place (first ++ second) ≡ reading before place first
 stops [] second before place t e = absurd (none≢some e)
 stops (None ∷ first) second before place t e = refl
@@ -59,7 +59,7 @@ stops (Some word ∷ first) second before place t e = go (λ after. stops first 
     go later (Taken after brought) e = ap (preceded brought) (later after e)
 
 -- so the first words of words that are read with no fault have none
-front_clean : (first second : List (Option Word)) → (reading beginning 0 (first ++ second)).fault ≡ None → (reading beginning 0 first).fault ≡ None
+pub front_clean : (first second : List (Option Word)) → (reading beginning 0 (first ++ second)).fault ≡ None → (reading beginning 0 first).fault ≡ None
 front_clean first second clean = go (reading beginning 0 first).fault refl
   where
     go : (o : Option Told) → (reading beginning 0 first).fault ≡ o → o ≡ None
@@ -82,7 +82,7 @@ all_decoded_once (n ∷ ns) (w ∷ ws) (v ∷ vs) is also =
     ap (λ x. x ∷ ws) (decoded-once n w v is.0 also.0) ∙ ap (λ xs. v ∷ xs) (all_decoded_once ns ws vs is.1 also.1)
 
 -- bits make words or none
-all_decode : (ns : List ℕ) → (ws : List (Option Word)) × AllDecoded ns ws
+pub all_decode : (ns : List ℕ) → (ws : List (Option Word)) × AllDecoded ns ws
 all_decode [] = ([], tt)
 all_decode (n ∷ ns) =
     let first = decodes n in
@@ -103,7 +103,7 @@ bytes_spelled : (ws : List Word) → bytes_of ws ≡ flat_map spelled (map encod
 bytes_spelled [] = refl
 bytes_spelled (w ∷ ws) = ap (λ bs. spelled (encoded w) ++ bs) (bytes_spelled ws)
 
-none_over : (ns : List ℕ) → left_over (flat_map spelled ns) ≡ []
+pub none_over : (ns : List ℕ) → left_over (flat_map spelled ns) ≡ []
 none_over [] = refl
 none_over (n ∷ ns) = none_over ns
 
@@ -132,6 +132,14 @@ module _ (bytes : List ℕ) where
     reads words decoded place =
         subst (λ x. Gave plan bookings (reading beginning place x)) (all_decoded_once (words_of bytes) (map Some ws) words has_words decoded)
         (file_and_reading.reads_back plan bookings f place)
+
+    pub faultless : (words : List (Option Word)) → AllDecoded (words_of bytes) words → file_fault words (length (left_over bytes)) ≡ None
+    faultless words decoded =
+        let r = reading beginning 0 words in
+        let gave = reads words decoded 0 in
+        ap (λ o. or_else o (end_fault r.standing (length words) (length (left_over bytes)))) gave.no_fault
+        ∙ ap (λ bs. end_fault r.standing (length words) (length bs)) over
+        ∙ ap (λ b. cond (b && true) None (Some (record { layer = FILE; number = 11; place = length words }))) gave.ends
 
   -- stopped at a word
   module _ (fault : ReadFault) (later : List Booking) (end : Standing) (block : BlockRead beginning 0 (words_of bytes) [] (Err fault) later end) where
@@ -189,12 +197,7 @@ module _ (bytes : List ℕ) where
 
     pub ended_back : (fault : ReadFault) → told fault ≡ judged_end
         → (plan : Contents) (bs : List Booking) → Fileable plan bs → bytes ≡ file_of plan bs → told fault ≡ None
-    ended_back fault tells plan bs f is =
-        let gave = reads plan bs f is block.words decoded-all 0 in
-        tells ∙ end_is
-        ∙ ap (λ o. or_else o (end_fault r.standing (length block.words) (length (left_over bytes)))) gave.no_fault
-        ∙ ap (λ bs. end_fault r.standing (length block.words) (length bs)) (over plan bs f is)
-        ∙ ap (λ b. cond (b && true) None (Some (record { layer = FILE; number = 11; place = length block.words }))) gave.ends
+    ended_back fault tells plan bs f is = tells ∙ end_is ∙ faultless plan bs f is block.words decoded-all
 
     -- the file may end here
     module _ (plan : Contents) (planned : plan ≡ end.plan) (fine : judged_end ≡ None) where

@@ -1,5 +1,6 @@
--- Reading word by word. Assumes nothing.
-use Rattle.std.proofs.Common.{◌≡◌, ℕ, ◌+◌, ◌≤◌, List, [], ◌∷◌, ◌++◌, length, Some, None, Ok, Err, Option, sym, refl, ap, ◌∙◌, subst, append_assoc, arith, length-append}
+-- Reading word by word, and block by block. Assumes nothing.
+use Rattle.std.proofs.Common.{◌≡◌, ℕ, ◌+◌, ◌≤◌, Bool, true, false, cond, List, [], ◌∷◌, ◌++◌, length, is_some, Some, None, Ok, Err, Option, sym, refl, ap, ◌∙◌, subst, append_assoc, arith, length-append}
+use Rattle.std.specs.List.{flat_map}
 use Rattle.std.proofs.lemmas.Bool.{false≢true}
 use Rattle.std.proofs.lemmas.List.{append-nil}
 use Rattle.plan.specs.declared.booking.Booking.{Booking}
@@ -7,6 +8,7 @@ use Rattle.words.specs.Bytes.{last_number, number_at, words_of}
 use Rattle.words.specs.Windows.{Advanced}
 use Rattle.words.specs.declared.window.Window.{Window}
 use Rattle.words.proofs.Numbering.{shown}
+use Rattle.words.proofs.Spelling.{words_append}
 use Rattle.words.specs.declared.word.Word.{Word}
 use Rattle.monthfile.specs.declared.brought.Brought.{Brought}
 use Rattle.monthfile.specs.declared.brought.Brought.TheVariants.{Nothing, Opening, Offtake}
@@ -14,36 +16,78 @@ use Rattle.monthfile.specs.declared.fault.ReadFault.{ReadFault}
 use Rattle.monthfile.specs.declared.telling.Told.{Told}
 use Rattle.monthfile.specs.Faults.{told, blamed, Stepped}
 use Rattle.monthfile.specs.Judging.{Standing, Verdict, Faulty, Taken, judge}
-use Rattle.monthfile.specs.Reading.{Reading, reading, gone_on, preceded, ended, booking_of, followed, BlockByBlock, ReadTo, BlockRead, AllDecoded}
+use Rattle.monthfile.specs.Reading.{Reading, reading, gone_on, preceded, ended, booking_of, followed, joined, reading_blocks, WholeWords, BlockByBlock, ReadTo, BlockRead, AllDecoded}
 
 pub some≢none : {X : Type 0} {x : X} → Some x ≡ None → ⊥
 some≢none e = let z : ◌≡◌ {A = ℕ} 0 1 = cc in omega arith
 
-number_next : (place n : ℕ) → number_at (number_at place 1) n ≡ number_at place (1 + n)
-number_next place n = omega arith
-
-pub block_by_block : BlockByBlock
-block_by_block before place [] second small clean = ap (λ k. reading before k second) (omega arith)
-block_by_block before place (None ∷ first) second small clean = absurd (some≢none clean)
-block_by_block before place (Some word ∷ first) second small clean =
-    go (λ after. block_by_block after (number_at place 1) first second (omega arith)) (judge before word) clean
+-- what a word brought comes before the bookings of both readings
+preceded-followed : (brought : Brought) (first second : Reading) → preceded brought (followed first second) ≡ followed (preceded brought first) second
+preceded-followed brought first second = go (is_some first.fault)
   where
-    go : ((after : Standing) → (reading after (number_at place 1) first).fault ≡ None
+    go : (faulty : Bool)
+        → preceded brought (cond faulty first (record { bookings = first.bookings ++ second.bookings; fault = second.fault; standing = second.standing }))
+        ≡ cond faulty (preceded brought first)
+        (record { bookings = (booking_of brought ++ first.bookings) ++ second.bookings; fault = second.fault; standing = second.standing })
+    go true = refl
+    go false =
+        ap (λ bs. record { bookings = bs; fault = second.fault; standing = second.standing })
+        (sym (append_assoc (booking_of brought) first.bookings second.bookings))
+
+-- words in two parts
+read_in_two : (before : Standing) (place : ℕ) (first second : List (Option Word)) → place ≤ last_number
+    → reading before place (first ++ second)
+    ≡ followed (reading before place first) (reading (reading before place first).standing (number_at place (length first)) second)
+read_in_two before place [] second small = ap (λ k. reading before k second) (omega arith)
+read_in_two before place (None ∷ first) second small = refl
+read_in_two before place (Some word ∷ first) second small =
+    go (λ after. read_in_two after (number_at place 1) first second (omega arith)) (judge before word)
+  where
+    go : ((after : Standing)
         → reading after (number_at place 1) (first ++ second)
         ≡ followed (reading after (number_at place 1) first) (reading (reading after (number_at place 1) first).standing (number_at (number_at place 1) (length first)) second))
-        → (v : Verdict) → (gone_on before place v (λ st. reading st (number_at place 1) first)).fault ≡ None
+        → (v : Verdict)
         → gone_on before place v (λ st. reading st (number_at place 1) (first ++ second))
         ≡ followed (gone_on before place v (λ st. reading st (number_at place 1) first))
         (reading (gone_on before place v (λ st. reading st (number_at place 1) first)).standing (number_at place (length (Some word ∷ first))) second)
-    go later (Faulty layer number) clean = absurd (some≢none clean)
-    go later (Taken after brought) clean =
+    go later (Faulty layer number) = refl
+    go later (Taken after brought) =
         let r : Reading = reading after (number_at place 1) first in
-        let s : ℕ → Reading = λ k. reading r.standing k second in
         let k : number_at (number_at place 1) (length first) ≡ number_at place (length (Some word ∷ first)) = omega arith in
-        ap (preceded brought) (later after clean)
-        ∙ ap (λ bs. record { bookings = bs; fault = (s (number_at (number_at place 1) (length first))).fault; standing = (s (number_at (number_at place 1) (length first))).standing })
-        (sym (append_assoc (booking_of brought) r.bookings (s (number_at (number_at place 1) (length first))).bookings))
-        ∙ ap (λ n. followed (preceded brought r) (s n)) k
+        ap (preceded brought) (later after) ∙ preceded-followed brought r (reading r.standing (number_at (number_at place 1) (length first)) second)
+        ∙ ap (λ n. followed (preceded brought r) (reading r.standing n second)) k
+
+-- where the first part has no fault, the rest is read on
+pub read_after : (before : Standing) (place : ℕ) (first second : List (Option Word)) → place ≤ last_number → (reading before place first).fault ≡ None
+    → reading before place (first ++ second)
+    ≡ record {
+      bookings = (reading before place first).bookings ++ (reading (reading before place first).standing (number_at place (length first)) second).bookings;
+      fault = (reading (reading before place first).standing (number_at place (length first)) second).fault;
+      standing = (reading (reading before place first).standing (number_at place (length first)) second).standing;
+    }
+read_after before place first second small clean =
+    let r : Reading = reading before place first in
+    let s : Reading = reading r.standing (number_at place (length first)) second in
+    read_in_two before place first second small
+    ∙ ap (λ o. cond (is_some o) r (record { bookings = r.bookings ++ s.bookings; fault = s.fault; standing = s.standing })) clean
+
+words_in_blocks : (blocks : List (List ℕ)) → WholeWords blocks → words_of (joined blocks) ≡ flat_map words_of blocks
+words_in_blocks [] whole = refl
+words_in_blocks (block ∷ []) whole = ap words_of (append-nil block) ∙ sym (append-nil (words_of block))
+words_in_blocks (block ∷ next ∷ blocks) whole =
+    words_append block (joined (next ∷ blocks)) whole.0
+    ∙ ap (λ ws. words_of block ++ ws) (words_in_blocks (next ∷ blocks) whole.1)
+
+read_in_blocks : (before : Standing) (place : ℕ) (blocks : List (List (Option Word))) → place ≤ last_number
+    → reading before place (joined blocks) ≡ reading_blocks before place blocks
+read_in_blocks before place [] small = refl
+read_in_blocks before place (block ∷ blocks) small =
+    read_in_two before place block (joined blocks) small
+    ∙ ap (followed (reading before place block))
+    (read_in_blocks (reading before place block).standing (number_at place (length block)) blocks (omega arith))
+
+pub block_by_block : BlockByBlock
+block_by_block = record { words = words_in_blocks; read = read_in_blocks }
 
 -- stopped for want of memory before the first word
 pub nothing_read : (before : Standing) (place : ℕ) (bits : List ℕ) (bs : List Booking) (fault : ReadFault) → told fault ≡ None
@@ -151,7 +195,7 @@ pub read_on : (before : Standing) (place : ℕ) (earlier : List Booking) (words 
     → ReadTo before place words earlier None bookings after → ReadTo after number more bookings fault later end
     → ReadTo before place (words ++ more) earlier fault later end
 read_on before place earlier words more number fault bookings later after end small counted first second =
-    let whole = block_by_block before place words more small first.faulty in
+    let whole = read_after before place words more small first.faulty in
     let r : Reading = reading before place words in
     let same : reading after number more ≡ reading r.standing (number_at place (length words)) more =
     ap (λ st. reading st number more) first.stands ∙ ap (λ n. reading r.standing n more) counted in

@@ -8,21 +8,14 @@ use Rattle.words.specs.Layout.{Decoded}
 use Rattle.words.specs.declared.word.Word.{Word}
 use Rattle.monthfile.specs.declared.brought.Brought.{Brought}
 use Rattle.monthfile.specs.declared.brought.Brought.TheVariants.{Nothing}
-use Rattle.monthfile.specs.declared.fault.FileFault.{FileFault}
-use Rattle.monthfile.specs.declared.fault.FileFault.TheVariants.{Malformed, OutOfOrder, OutsideLimits, CutShort}
+use Rattle.monthfile.specs.declared.fault.FileFault.TheVariants.{Malformed}
 use Rattle.monthfile.specs.declared.fault.ReadFault.{ReadFault}
 use Rattle.monthfile.specs.declared.fault.ReadFault.TheVariants.{File, Plan, Memory}
 use Rattle.monthfile.specs.declared.phase.Phase.{Phase}
 use Rattle.monthfile.specs.declared.telling.Layer.TheVariants.{File as FILE, Plan as PLAN}
 use Rattle.monthfile.specs.declared.telling.Told.{Told}
+use Rattle.monthfile.specs.Numbers.{number_of}
 use Rattle.monthfile.specs.Judging.{Standing, Verdict, Faulty, Taken, judge}
-
--- the number of each fault of the layer FILE
-abbrev pub number_of : FileFault → ℕ
-number_of Malformed = 1
-number_of OutOfOrder = 2
-number_of OutsideLimits = 3
-number_of CutShort = 11
 
 -- Layer, number and place of each fault; want of memory tells none.
 abbrev pub told : ReadFault → Option Told

@@ -13,7 +13,9 @@ use Rattle.monthfile.specs.declared.brought.Brought.{Brought}
 use Rattle.monthfile.specs.declared.brought.Brought.TheVariants.{Nothing, Opening, Offtake}
 use Rattle.monthfile.specs.declared.telling.Layer.{Layer}
 use Rattle.monthfile.specs.declared.telling.Layer.TheVariants.{File as FILE, Plan as PLAN}
+use Rattle.monthfile.specs.declared.fault.FileFault.TheVariants.{OutOfOrder, OutsideLimits}
 use Rattle.monthfile.specs.File.{one_on, is_same_spot}
+use Rattle.monthfile.specs.Numbers.{number_of}
 
 -- the last hour that a select names
 abbrev pub last_hour : ℕ
@@ -188,5 +190,5 @@ judge standing word =
     (by_plan (plan_refusal standing.plan (call_of standing.phase word))
     (record { phase = phase_after after standing.phase word; plan = after })
     (brought_by standing.phase word))
-    (Faulty FILE 3))
-    (Faulty FILE 2)
+    (Faulty FILE (number_of OutsideLimits)))
+    (Faulty FILE (number_of OutOfOrder))

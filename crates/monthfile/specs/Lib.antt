@@ -1,4 +1,5 @@
 pub mod File
+pub mod Numbers
 pub mod Judging
 pub mod Faults
 pub mod Reading

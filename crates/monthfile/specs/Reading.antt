@@ -1,7 +1,8 @@
 -- Reading words one after the other: the bookings they bring, the first fault, and where the reader stands then. Assumes nothing.
-use Rattle.std.specs.Prelude.{◌≡◌, ℕ, ◌≤◌, Bool, true, false, cond, ◌&&◌, List, [], ◌∷◌, ◌++◌, length, is_ok, Some, None, Ok, Err, Option, Result, ◌==◌}
+use Rattle.std.specs.Prelude.{◌≡◌, ℕ, ◌≤◌, ◌%◌, Bool, true, false, cond, ◌&&◌, List, [], ◌∷◌, ◌++◌, length, is_ok, is_some, Some, None, Ok, Err, Option, Result, ◌==◌}
+use Rattle.std.specs.List.{flat_map}
 use Rattle.plan.specs.declared.booking.Booking.{Booking}
-use Rattle.words.specs.Bytes.{last_number, number_at}
+use Rattle.words.specs.Bytes.{last_number, number_at, word_bytes, words_of}
 use Rattle.words.specs.Layout.{Decoded}
 use Rattle.words.specs.declared.word.Word.{Word}
 use Rattle.monthfile.specs.declared.brought.Brought.{Brought}
@@ -11,7 +12,9 @@ use Rattle.monthfile.specs.declared.phase.Phase.{Phase}
 use Rattle.monthfile.specs.declared.phase.Phase.TheVariants.{Start, Segments, Terms, Meters, Peaks, Selected, Booked}
 use Rattle.monthfile.specs.declared.telling.Layer.TheVariants.{File as FILE}
 use Rattle.monthfile.specs.declared.telling.Told.{Told}
+use Rattle.monthfile.specs.declared.fault.FileFault.TheVariants.{Malformed, CutShort}
 use Rattle.monthfile.specs.Faults.{told}
+use Rattle.monthfile.specs.Numbers.{number_of}
 use Rattle.monthfile.specs.Judging.{Standing, Verdict, Faulty, Taken, judge}
 
 -- what a reading gives: the bookings before the first fault, that fault, and where the reader stands
@@ -44,7 +47,7 @@ gone_on before place (Taken standing brought) rest = preceded brought (rest stan
 -- The reading of words from a place on. Bits that make no word are FILE's fault 1.
 abbrev pub reading : Standing → ℕ → List (Option Word) → Reading
 reading before place [] = ended before None
-reading before place (None ∷ words) = ended before (Some (record { layer = FILE; number = 1; place = place }))
+reading before place (None ∷ words) = ended before (Some (record { layer = FILE; number = number_of Malformed; place = place }))
 reading before place (Some word ∷ words) =
     gone_on before place (judge before word) (λ standing. reading standing (number_at place 1) words)
 
@@ -68,23 +71,39 @@ may_end (Booked spot) = true
 -- the fault of a file's end, if it is one: after a select, inside a word or before the last factor
 abbrev pub end_fault : Standing → ℕ → ℕ → Option Told
 end_fault standing place left_over =
-    cond (may_end standing.phase && left_over == 0) None (Some (record { layer = FILE; number = 11; place = place }))
+    cond (may_end standing.phase && left_over == 0) None (Some (record { layer = FILE; number = number_of CutShort; place = place }))
 
--- two readings, one after the other
+-- two readings, one after the other: a fault of the first ends it, and the second's bookings come after the first's
 abbrev pub followed : Reading → Reading → Reading
-followed first second = record {
-  bookings = first.bookings ++ second.bookings;
-  fault = second.fault;
-  standing = second.standing;
-}
+followed first second =
+    cond (is_some first.fault) first
+    (record { bookings = first.bookings ++ second.bookings; fault = second.fault; standing = second.standing })
 
--- Whatever the blocks, reading them one after the other is reading the whole: where the first words are read with no fault,
--- the rest is read on from where the reader then stands, with the numbers that its words have in the whole.
-abbrev pub BlockByBlock : Type 0
-BlockByBlock =
-    (before : Standing) (place : ℕ) (first second : List (Option Word)) → place ≤ last_number → (reading before place first).fault ≡ None
-    → reading before place (first ++ second)
-    ≡ followed (reading before place first) (reading (reading before place first).standing (number_at place (length first)) second)
+-- The reading of blocks of words, the first word of them at a place: each block is read from where the one before it left the
+-- reader, with the numbers that its words have in the whole, up to the first fault.
+abbrev pub reading_blocks : Standing → ℕ → List (List (Option Word)) → Reading
+reading_blocks before place [] = ended before None
+reading_blocks before place (block ∷ blocks) =
+    followed (reading before place block)
+    (reading_blocks (reading before place block).standing (number_at place (length block)) blocks)
+
+-- blocks as one list, one after the other
+abbrev pub joined : {X : Type 0} → List (List X) → List X
+joined blocks = flat_map (λ block. block) blocks
+
+-- each block but the last has whole words only
+abbrev pub WholeWords : List (List ℕ) → Type 0
+WholeWords [] = Unit {0}
+WholeWords (block ∷ []) = Unit {0}
+WholeWords (block ∷ next ∷ blocks) = (length block % word_bytes ≡ 0) × WholeWords (next ∷ blocks)
+
+-- Whatever the blocks, each but the last of whole words: their words are those of the whole, and reading the blocks one after the
+-- other is reading the whole, up to the first fault. So the last word counts, with or without anything after it: the words before
+-- it, the last word and what comes after it are three blocks, and the second is read before the third.
+pub record BlockByBlock : Type 0 where
+  pub words : (blocks : List (List ℕ)) → WholeWords blocks → words_of (joined blocks) ≡ flat_map words_of blocks
+  pub read : (before : Standing) (place : ℕ) (blocks : List (List (Option Word))) → place ≤ last_number
+      → reading before place (joined blocks) ≡ reading_blocks before place blocks
 
 -- what reading these words from a place leaves: the bookings after the earlier ones, the fault, and where the reader stands
 pub record ReadTo (before : Standing) (place : ℕ) (words : List (Option Word)) (earlier : List Booking) (fault : Option Told) (bookings : List Booking) (after : Standing) : Type 0 where

@@ -1,5 +1,5 @@
 // Reads a file block by block.
-ghost use Rattle.std.specs.Prelude.{◌≡◌, [], ◌∷◌, None, MatchResult};
+ghost use Rattle.std.specs.Prelude.{◌≡◌, true, [], ◌∷◌, is_some, IfErr, None, MatchResult};
 ghost use Rattle.plan.specs.OfPlan.{contents};
 ghost use Rattle.words.specs.Bytes.{words_of};
 ghost use Rattle.monthfile.specs.Faults.{told};
@@ -50,7 +50,8 @@ impl Reader {
 
     // Judges the file's end: after this many whole words, with this many bytes left over. Callers have the counts apart.
     pub fn check_end(&self, words: u64, left_over: usize) -> Result<(), ReadFault>
-        ensures { MatchResult result (λ _. end_fault (standing_of self.now) words left_over ≡ None) (λ fault. told fault ≡ end_fault (standing_of self.now) words left_over) }
+        ensures answer { MatchResult result (λ _. end_fault (standing_of self.now) words left_over ≡ None) (λ fault. told fault ≡ end_fault (standing_of self.now) words left_over) }
+        ensures tells { IfErr result (λ fault. is_some (told fault) ≡ true) }
     {
         match self.phase {
             Phase::Meters | Phase::Peaks | Phase::Booked(_) if left_over == 0 => Ok(()),
@@ -60,7 +61,8 @@ impl Reader {
 
     // The plan, where the file may end here.
     pub fn finish(self, words: u64, left_over: usize) -> Result<Plan, ReadFault>
-        ensures { MatchResult result (λ plan. (end_fault (standing_of self) words left_over ≡ None) × (contents plan ≡ contents self.plan)) (λ fault. told fault ≡ end_fault (standing_of self) words left_over) }
+        ensures answer { MatchResult result (λ plan. (end_fault (standing_of self) words left_over ≡ None) × (contents plan ≡ contents self.plan)) (λ fault. told fault ≡ end_fault (standing_of self) words left_over) }
+        ensures tells { IfErr result (λ fault. is_some (told fault) ≡ true) }
     {
         self.check_end(words, left_over)?;
         Ok(self.plan)

@@ -1,6 +1,6 @@
 // The faults of reading a month file. A fault carries the one below it whole, with its place.
 ghost use Rattle.std.specs.Prelude.{◌≡◌, Ok, Err, MatchResult};
-ghost use Rattle.monthfile.specs.Faults.{number_of};
+ghost use Rattle.monthfile.specs.Numbers.{number_of};
 ghost use Rattle.monthfile.specs.declared.fault.ReadFault.TheVariants.{File, Plan, Memory};
 
 use plan::PlanFault;
@@ -39,7 +39,7 @@ pub struct Placed<F> {
 pub enum ReadFault {
     File(Placed<FileFault>),
     Plan(Placed<PlanFault>),
-    // no memory for a booking
+    // no memory
     Memory,
 }
 

@@ -4,7 +4,9 @@ ghost use Rattle.plan.specs.Calls.{SetPeriod, AddMeter, AddCarried};
 ghost use Rattle.plan.specs.Contents.{Contents, nothing};
 ghost use Rattle.plan.specs.Questions.{is_full};
 ghost use Rattle.plan.specs.OfPlan.{contents};
-ghost use Rattle.monthfile.specs.Faults.{Judged, JudgedByPlan, Stepped, number_of, told};
+ghost use Rattle.monthfile.specs.Faults.{Judged, JudgedByPlan, Stepped, told};
+ghost use Rattle.monthfile.specs.Numbers.{number_of};
+ghost use Rattle.monthfile.specs.declared.fault.FileFault.TheVariants.{OutsideLimits};
 ghost use Rattle.words.specs.declared.word.Word.TheVariants.{Select};
 ghost use Rattle.monthfile.specs.File.{one_on};
 ghost use Rattle.monthfile.specs.declared.telling.Layer.TheVariants.{File as FILE};
@@ -159,7 +161,7 @@ impl Reader {
 
     // A select and an amount share the limit of the hour alone.
     fn select(&mut self, place: u64, spot: Spot, brought: Brought) -> Result<Brought, ReadFault>
-        ensures { MatchResult result (λ b. (spot.hour ≤ last_hour) × (b ≡ brought) × (standing_of self.new ≡ record { phase = Selected spot; plan = contents self.old.plan })) (λ fault. (last_hour < spot.hour) × (told fault ≡ Some (record { layer = FILE; number = 3; place = place })) × (standing_of self.new ≡ standing_of self.old)) }
+        ensures { MatchResult result (λ b. (spot.hour ≤ last_hour) × (b ≡ brought) × (standing_of self.new ≡ record { phase = Selected spot; plan = contents self.old.plan })) (λ fault. (last_hour < spot.hour) × (told fault ≡ Some (record { layer = FILE; number = number_of OutsideLimits; place = place })) × (standing_of self.new ≡ standing_of self.old)) }
     {
         if spot.hour > LAST_HOUR {
             return Err(refused(FileFault::OutsideLimits, place));
@@ -170,7 +172,7 @@ impl Reader {
 
     // An amount books the selected hour and moves the selection one hour on.
     fn book(&mut self, place: u64, spot: Spot, amount: u32) -> Result<Brought, ReadFault>
-        ensures { MatchResult result (λ b. (spot.hour ≤ last_hour) × (b ≡ offtake (Some spot) amount) × (standing_of self.new ≡ record { phase = Booked (one_on spot); plan = contents self.old.plan })) (λ fault. (last_hour < spot.hour) × (told fault ≡ Some (record { layer = FILE; number = 3; place = place })) × (standing_of self.new ≡ standing_of self.old)) }
+        ensures { MatchResult result (λ b. (spot.hour ≤ last_hour) × (b ≡ offtake (Some spot) amount) × (standing_of self.new ≡ record { phase = Booked (one_on spot); plan = contents self.old.plan })) (λ fault. (last_hour < spot.hour) × (told fault ≡ Some (record { layer = FILE; number = number_of OutsideLimits; place = place })) × (standing_of self.new ≡ standing_of self.old)) }
     {
         if spot.hour > LAST_HOUR {
             return Err(refused(FileFault::OutsideLimits, place));

@@ -11,6 +11,7 @@ use crate::fault::ReadFault;
 use crate::reader::Reader;
 use plan::{Booking, Plan};
 use std::alloc::Global;
+use words::WORD_BYTES;
 
 // The plan and the bookings of a file, or the file's first fault.
 pub fn read(heap: Global, bytes: &[u8]) -> Result<(Plan, Vec<Booking>), ReadFault>
@@ -22,7 +23,7 @@ pub fn read(heap: Global, bytes: &[u8]) -> Result<(Plan, Vec<Booking>), ReadFaul
     let mut reader = Reader::new(heap);
     let mut bookings = Vec::new(heap);
     reader.read_block(bytes, 0, &mut bookings)?;
-    let words = bytes.len() as u64 / 4;
-    let plan = reader.finish(words, bytes.len() % 4)?;
+    let words = bytes.len() as u64 / WORD_BYTES as u64;
+    let plan = reader.finish(words, bytes.len() % WORD_BYTES)?;
     Ok((plan, bookings))
 }

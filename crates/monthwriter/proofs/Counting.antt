@@ -13,9 +13,10 @@ use Rattle.plan.specs.Questions.{is_full}
 use Rattle.plan.specs.WellMade.{period_call, segment_calls, is_well_made}
 use Rattle.plan.specs.declared.booking.Booking.{Booking}
 use Rattle.plan.proofs.Complete.{complete}
+use Rattle.words.specs.Bytes.{word_bytes}
 use Rattle.words.specs.declared.word.Word.{Word}
 use Rattle.monthfile.specs.File.{call_words, booking_words, file_of, file_words}
-use Rattle.monthwriter.specs.Placing.{word_bytes, meter_word, peak_word}
+use Rattle.monthwriter.specs.Placing.{meter_word, peak_word}
 use Rattle.monthwriter.proofs.Present.{full_length}
 use Rattle.monthwriter.proofs.Putting.{length-bytes}
 

@@ -3,12 +3,12 @@ use Rattle.std.proofs.Common.{◌≡◌, ℕ, ◌+◌, ◌*◌, ◌≤◌, List,
 use Rattle.std.specs.List.{AllByRecursion}
 use Rattle.std.proofs.lemmas.List.{append_assoc, drop_at, drop-drop, length-append, length-drop, length-take-le, take-append-drop, take_at}
 use Rattle.std.proofs.lemmas.Grind.{flat_map-append}
-use Rattle.words.specs.Bytes.{spelled}
+use Rattle.words.specs.Bytes.{word_bytes, spelled}
 use Rattle.words.specs.Layout.{FieldsFit, encoded}
 use Rattle.words.specs.declared.word.Word.{Word}
 use Rattle.monthfile.specs.File.{bytes_of}
 use Rattle.monthwriter.specs.declared.placing.Output.{Output}
-use Rattle.monthwriter.specs.Placing.{word_bytes, with_words, RoomFor, WordsPut}
+use Rattle.monthwriter.specs.Placing.{with_words, RoomFor, WordsPut}
 
 all_parts : {X : Type 0} (P : X → Type 0) (xs ys : List X) → AllByRecursion P (xs ++ ys) → AllByRecursion P xs × AllByRecursion P ys
 all_parts P [] ys all = (tt, all)

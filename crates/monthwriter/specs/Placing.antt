@@ -4,16 +4,13 @@ use Rattle.std.specs.List.{AllByRecursion}
 use Rattle.plan.specs.declared.booking.Booking.{Booking}
 use Rattle.plan.specs.declared.carried.CarriedPeak.{CarriedPeak}
 use Rattle.plan.specs.declared.meter.Meter.{Meter as PlanMeter}
+use Rattle.words.specs.Bytes.{word_bytes}
 use Rattle.words.specs.Layout.{FieldsFit}
 use Rattle.words.specs.declared.spot.Spot.{Spot}
 use Rattle.words.specs.declared.word.Word.{Word}
 use Rattle.words.specs.declared.word.Word.TheVariants.{Meter, Amount, Carried}
 use Rattle.monthwriter.specs.declared.placing.Output.{Output}
 use Rattle.monthfile.specs.File.{spot_of, comes_next, select_words, bytes_of}
-
--- the bytes of a word
-abbrev pub word_bytes : ℕ
-word_bytes = 4
 
 -- the memory with the bytes of words from a place on, and all else as it was
 unfoldable pub with_words : ℕ → List Word → List ℕ → List ℕ

@@ -8,8 +8,9 @@ ghost use Rattle.monthwriter.specs.Placing.{RoomFor, WordsPut};
 ghost use Rattle.monthwriter.specs.Refusals.{is_held};
 
 use crate::entries::put_meters_and_peaks;
-use crate::placing::{Output, WORD_BYTES};
+use crate::placing::Output;
 use plan::{Booking, MOST_SEGMENTS, Plan};
+use words::WORD_BYTES;
 
 // The period has one word, each segment two.
 const HEAD_WORDS: u128 = 1 + 2 * MOST_SEGMENTS as u128;

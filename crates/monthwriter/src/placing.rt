@@ -2,9 +2,7 @@
 ghost use Rattle.std.specs.Prelude.{◌≡◌, [], ◌∷◌};
 ghost use Rattle.monthwriter.specs.Placing.{RoomFor, WordsPut};
 
-use words::Word;
-
-pub(crate) const WORD_BYTES: usize = 4;
+use words::{WORD_BYTES, Word};
 
 // The caller's memory, and the place of the next word in it.
 // Not the rest of the memory alone, since the contracts speak of all of it, with the words in it.

@@ -1,8 +1,8 @@
 // Writes the file of a plan and its bookings.
-ghost use Rattle.std.specs.Prelude.{take, IfOk};
+ghost use Rattle.std.specs.Prelude.{length, take, IfOk};
 ghost use Rattle.plan.specs.OfPlan.{contents};
 ghost use Rattle.monthfile.specs.Inverse.{FileAndReading};
-ghost use Rattle.monthwriter.specs.Written.{FileWritten, ReadsBack};
+ghost use Rattle.monthwriter.specs.Written.{FileWritten, ReadsBack, TakesFile};
 
 use crate::checks::check;
 use crate::fault::WriteFault;
@@ -14,6 +14,7 @@ use plan::{Booking, Plan};
 pub fn write(plan: &Plan, bookings: &[Booking], out: &mut [u8]) -> Result<usize, WriteFault>
     ensures answer { FileWritten (contents plan.now) bookings.now out.old result out.new }
     ensures back { IfOk result (λ size. ReadsBack (contents plan.now) bookings.now (take size out.new)) }
+    ensures takes { TakesFile (contents plan.now) bookings.now (length out.old) result }
     ensures inverse { FileAndReading }
 {
     let file = check(plan, bookings, out.len())?;

@@ -2,26 +2,26 @@
 use Rattle.std.proofs.Common.{◌≡◌, ℕ, ◌+◌, ◌*◌, ◌/◌, ◌%◌, ◌^◌, ◌<◌, ◌≤◌, List, [], ◌∷◌, ◌++◌, length, get_or, take, drop, refl, ap, ◌∙◌, arith}
 use Rattle.std.specs.List.{flat_map, AllByRecursion}
 use Rattle.std.proofs.lemmas.Nat.{mod-pow-add}
-use Rattle.words.specs.Bytes.{spelled, words_of, left_over}
+use Rattle.words.specs.Bytes.{word_bytes, spelled, words_of, left_over}
 
 -- the first word of bytes that have one
-pub words_front : (bs : List ℕ) → 4 ≤ length bs
+pub words_front : (bs : List ℕ) → word_bytes ≤ length bs
     → words_of bs
-    ≡ (get_or (take 4 bs) 0 0 * 2 ^ 24 + get_or (take 4 bs) 1 0 * 2 ^ 16 + get_or (take 4 bs) 2 0 * 2 ^ 8 + get_or (take 4 bs) 3 0) ∷ words_of (drop 4 bs)
+    ≡ (get_or (take word_bytes bs) 0 0 * 2 ^ 24 + get_or (take word_bytes bs) 1 0 * 2 ^ 16 + get_or (take word_bytes bs) 2 0 * 2 ^ 8 + get_or (take word_bytes bs) 3 0) ∷ words_of (drop word_bytes bs)
 words_front [] long = absurd (omega arith)
 words_front (a ∷ []) long = absurd (omega arith)
 words_front (a ∷ b ∷ []) long = absurd (omega arith)
 words_front (a ∷ b ∷ c ∷ []) long = absurd (omega arith)
 words_front (a ∷ b ∷ c ∷ d ∷ rest) long = refl
 
-pub length-left_over : (bs : List ℕ) → length (left_over bs) ≡ length bs % 4
+pub length-left_over : (bs : List ℕ) → length (left_over bs) ≡ length bs % word_bytes
 length-left_over [] = refl
 length-left_over (a ∷ []) = refl
 length-left_over (a ∷ b ∷ []) = refl
 length-left_over (a ∷ b ∷ c ∷ []) = refl
 length-left_over (a ∷ b ∷ c ∷ d ∷ rest) = omega (arith, length-left_over rest)
 
-pub length-words : (bs : List ℕ) → length (words_of bs) ≡ length bs / 4
+pub length-words : (bs : List ℕ) → length (words_of bs) ≡ length bs / word_bytes
 length-words [] = refl
 length-words (a ∷ []) = refl
 length-words (a ∷ b ∷ []) = refl
@@ -29,7 +29,7 @@ length-words (a ∷ b ∷ c ∷ []) = refl
 length-words (a ∷ b ∷ c ∷ d ∷ rest) = omega (arith, length-words rest)
 
 -- bytes that end with a whole word: the words of what follows come after theirs
-pub words_append : (bs cs : List ℕ) → length bs % 4 ≡ 0 → words_of (bs ++ cs) ≡ words_of bs ++ words_of cs
+pub words_append : (bs cs : List ℕ) → length bs % word_bytes ≡ 0 → words_of (bs ++ cs) ≡ words_of bs ++ words_of cs
 words_append [] cs whole = refl
 words_append (a ∷ []) cs whole = absurd (omega arith)
 words_append (a ∷ b ∷ []) cs whole = absurd (omega arith)
@@ -37,7 +37,7 @@ words_append (a ∷ b ∷ c ∷ []) cs whole = absurd (omega arith)
 words_append (a ∷ b ∷ c ∷ d ∷ rest) cs whole =
     ap (λ ws. (a * 2 ^ 24 + b * 2 ^ 16 + c * 2 ^ 8 + d) ∷ ws) (words_append rest cs (omega arith))
 
-pub left_over-append : (bs cs : List ℕ) → length bs % 4 ≡ 0 → left_over (bs ++ cs) ≡ left_over cs
+pub left_over-append : (bs cs : List ℕ) → length bs % word_bytes ≡ 0 → left_over (bs ++ cs) ≡ left_over cs
 left_over-append [] cs whole = refl
 left_over-append (a ∷ []) cs whole = absurd (omega arith)
 left_over-append (a ∷ b ∷ []) cs whole = absurd (omega arith)

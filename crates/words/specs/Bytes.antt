@@ -2,11 +2,15 @@
 use Rattle.std.specs.Prelude.{◌≡◌, ℕ, ◌+◌, ◌-◌, ◌*◌, ◌/◌, ◌%◌, ◌^◌, ◌<◌, min, List, [], ◌∷◌, ◌++◌, length, slice_index_or}
 use Rattle.std.specs.List.{flat_map, AllByRecursion}
 
--- the four bytes of a word
+-- how many bytes a word has
+abbrev pub word_bytes : ℕ
+word_bytes = 4
+
+-- the bytes of a word
 abbrev pub spelled : ℕ → List ℕ
 spelled n = n / 2 ^ 24 % 2 ^ 8 ∷ n / 2 ^ 16 % 2 ^ 8 ∷ n / 2 ^ 8 % 2 ^ 8 ∷ n % 2 ^ 8 ∷ []
 
--- the words of a list of bytes, each of four bytes
+-- the words of a list of bytes
 abbrev pub words_of : List ℕ → List ℕ
 words_of [] = []
 words_of (a ∷ []) = []
@@ -14,7 +18,7 @@ words_of (a ∷ b ∷ []) = []
 words_of (a ∷ b ∷ c ∷ []) = []
 words_of (a ∷ b ∷ c ∷ d ∷ rest) = (a * 2 ^ 24 + b * 2 ^ 16 + c * 2 ^ 8 + d) ∷ words_of rest
 
--- the bytes after the last whole word, three at most
+-- the bytes after the last whole word, too few for another
 abbrev pub left_over : List ℕ → List ℕ
 left_over [] = []
 left_over (a ∷ []) = a ∷ []

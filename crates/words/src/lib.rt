@@ -17,4 +17,4 @@ pub use collect::collect_words;
 pub use segment_word::SegmentWord;
 pub use spot::Spot;
 pub use window::Window;
-pub use word::Word;
+pub use word::{WORD_BYTES, Word};

@@ -4,6 +4,8 @@ ghost use Rattle.std.specs.Iterator.{item_count};
 ghost use Rattle.words.specs.Bytes.{left_over};
 ghost use Rattle.words.specs.Windows.{entries, Shown, InFile};
 
+use crate::word::WORD_BYTES;
+
 #[derive(Drop)]
 pub struct Window<'a> {
     rest: &'a [u8],
@@ -34,7 +36,7 @@ impl<'a> Window<'a> {
     pub fn left_over(&self) -> usize
         ensures { result ≡ length (left_over self.now.rest.now) }
     {
-        self.rest.len() % 4
+        self.rest.len() % WORD_BYTES
     }
 }
 
@@ -47,7 +49,7 @@ impl Iterator for Window<'_> {
 
     // The next word with its number, or nothing where no whole word is left.
     fn next(&mut self) -> Option<(u64, u32)> {
-        let (bytes, rest) = self.rest.split_first_chunk::<4>()?;
+        let (bytes, rest) = self.rest.split_first_chunk::<WORD_BYTES>()?;
         let entry = (self.number, u32::from_be_bytes(*bytes));
         *self = Window::new(rest, self.number.saturating_add(1));
         Some(entry)

@@ -2,6 +2,9 @@
 use crate::segment_word::SegmentWord;
 use crate::spot::Spot;
 
+// How many bytes a word has.
+pub const WORD_BYTES: usize = 4;
+
 #[derive(Clone, Copy, PartialEq, Eq, Debug)]
 pub enum Word {
     // kind 1: the month, and how many hours of it are settled

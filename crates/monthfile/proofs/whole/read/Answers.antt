@@ -33,7 +33,7 @@ returns-in_err-plan c =
     let end = standing_of c.read_block.new.self in
     let block = from_start bytes (standing_of c.new-reader.result) (vec_items c.new-bookings.result) (Ok tt) later end c.new-reader.ensures c.new-bookings.ensures.items c.in_ok-read_block.ensures.read in
     let e = err_is c.from_residual-in_err-plan.result fault c.from_residual-in_err-plan.ensures.1 in
-    let tells = c.in_err-plan.ensures in
+    let tells = c.in_err-plan.ensures.answer in
     record {
       file = IfOk-from_err c.from_residual-in_err-plan.result _ (ap is_err e);
       back = λ q bs f is. subst (λ r. MatchResult r (λ given. (contents given.0 ≡ q) × (vec_items given.1 ≡ bs)) (λ x. told x ≡ None)) (sym e) (ended_back bytes later end block fault tells q bs f is);
@@ -48,7 +48,7 @@ returns c =
     let later = vec_items c.read_block.new.bookings in
     let end = standing_of c.read_block.new.self in
     let block = from_start bytes (standing_of c.new-reader.result) (vec_items c.new-bookings.result) (Ok tt) later end c.new-reader.ensures c.new-bookings.ensures.items c.in_ok-read_block.ensures.read in
-    let may = c.in_ok-plan.ensures in
+    let may = c.in_ok-plan.ensures.answer in
     let small : AllByRecursion (λ b. b < 2 ^ 8) bytes = All-from_get_or _ bytes 0 (λ k _. (c.type_inv.bytes k).fits) in
     record {
       file = (taken_fileable bytes later end block (contents plan) may.1 may.0 plan.well_made, taken_file bytes later end block (contents plan) may.1 may.0 small);

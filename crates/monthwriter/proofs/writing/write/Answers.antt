@@ -1,4 +1,5 @@
-use Rattle.std.proofs.Common.{◌≡◌, ℕ, List, ◌++◌, length, take, drop, None, Ok, sym, ap, ◌∙◌, subst, rules, arith}
+use Rattle.std.proofs.Common.{◌≡◌, ℕ, Bool, List, ◌++◌, length, take, drop, None, Ok, refl, sym, ap, ◌∙◌, subst, rules, arith}
+use Rattle.std.proofs.lemmas.Option.{none-some}
 use Rattle.plan.specs.Contents.{Contents}
 use Rattle.plan.specs.OfPlan.{contents}
 use Rattle.plan.specs.declared.booking.Booking.{Booking}
@@ -11,8 +12,8 @@ use Rattle.monthwriter.specs.Placing.{RoomFor, WordsPut}
 use Rattle.monthwriter.specs.Refusals.{write_refusal}
 use Rattle.monthwriter.specs.Written.{FileWritten, ReadsBack}
 use Rattle.monthwriter.proofs.Filed.{file_room}
-use Rattle.monthwriter.proofs.Fitting.{all_held}
-use Rattle.monthwriter.proofs.Granted.{granted}
+use Rattle.monthwriter.proofs.Fitting.{all_held, all_hold}
+use Rattle.monthwriter.proofs.Granted.{Grants, granted, not_refused}
 use Rattle.monthwriter.proofs.Putting.{in_front}
 use Rattle.monthwriter.proofs.Readable.{file_reads_back}
 use Rattle.monthwriter.proofs.writing.write.Goals as goal
@@ -36,6 +37,12 @@ same_words plan bookings = cc
 pub returns-in_err-file-clause-inverse : goal.returns-in_err-file-clause-inverse
 returns-in_err-file-clause-inverse c = file_and_reading
 
+pub returns-in_err-file-clause-takes : goal.returns-in_err-file-clause-takes
+returns-in_err-file-clause-takes c = λ fileable long.
+    let grants : Grants (contents c.args.plan.now) c.args.bookings.now (length c.args.out.now) =
+    record { full = fileable.full; held = all_hold c.args.bookings.now fileable.held; long = long } in
+    absurd (none-some _ (sym (not_refused (contents c.args.plan.now) c.args.bookings.now (length c.args.out.now) grants) ∙ c.in_err-file.ensures))
+
 pub put-requires : goal.put-requires
 put-requires c =
     let plan = contents c.args.plan.now in
@@ -55,4 +62,4 @@ returns c =
     let fileable : Fileable plan bs = record { made = c.args.plan.now.well_made; full = grants.full; held = all_held bs grants.held } in
     let put = subst (λ words. WordsPut c.new-output.result words c.put.new.out) (same_words checked.1 checked.2) c.put.ensures in
     let file = written plan bs fileable checked.0 c.new-output.ensures.front (search rules) put c.length.ensures (search rules) in
-    record { answer = file.0; back = file.1; inverse = file_and_reading }
+    record { answer = file.0; back = file.1; takes = λ fileable long. refl {A = Bool}; inverse = file_and_reading }
