@@ -1,4 +1,5 @@
-pub mod InBlocks
+pub mod Following
 pub mod InOrder
 pub mod Judged
 pub mod Showing
+pub mod Spelled

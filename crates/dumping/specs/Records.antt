@@ -50,13 +50,6 @@ records_in before (None ∷ words) = []
 records_in before (Some word ∷ words) =
     records_after (call_of before.phase word) (judge before word) (λ standing. records_in standing words)
 
--- Whatever the blocks, their records one after the other are those of the whole: where the first words are taken with no fault,
--- the records of the rest follow, from where the reader then stands.
-abbrev pub RecordsBlockByBlock : Type 0
-RecordsBlockByBlock =
-    (before : Standing) (place : ℕ) (first second : List (Option Word)) → (reading before place first).fault ≡ None
-    → records_in before (first ++ second) ≡ records_in before first ++ records_in (reading before place first).standing second
-
 -- The records of a file, word by word, are those of its plan's calls and then its bookings, each in its order.
 abbrev pub RecordsOfFile : Type 0
 RecordsOfFile =

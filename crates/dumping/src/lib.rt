@@ -1,7 +1,11 @@
-// What a month file holds: the record that each word completes, and the lines of the records.
+// Shows a month file from an input: a line for each record that its words complete, and the line of its first fault.
 #![tactic(auto)]
 
-mod blocks;
+mod dumps;
+mod fault;
 mod taking;
+#[cfg(test)]
+mod tests;
 
-pub use blocks::dump_block;
+pub use dumps::dump;
+pub use fault::DumpFault;

@@ -25,6 +25,9 @@ const KINDS: [u32; 16] = [
     0x80000000, 0x90000000, 0xA0000000, 0xB0000000, 0xC0000000, 0xD0000000, 0xE0000000, 0xF0000000,
 ];
 
+// How many bytes two words have.
+const LAST_TWO: usize = 8;
+
 // How many words of EACH_KIND come before the carried peak.
 const METERS: usize = 10;
 
@@ -60,7 +63,7 @@ fn show_words(rt: &HostRuntime, label: &str, front: &[u32], rest: &[u32]) -> any
 fn show_cuts(rt: &HostRuntime) -> anyhow::Result<()> {
     let whole = bytes_of(rt.alloc(), &JULY)?;
     let bytes = whole.as_slice();
-    for length in 60..=bytes.len() {
+    for length in bytes.len().saturating_sub(LAST_TWO)..=bytes.len() {
         let label = format!(in rt.alloc(); "july cut to {length} bytes")?;
         show(rt, label.as_str(), &bytes[..length])?;
     }

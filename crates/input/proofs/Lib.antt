@@ -1,2 +1,4 @@
+mod Ending
 pub mod Giving
+mod Placing
 pub mod Runs

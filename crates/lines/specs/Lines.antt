@@ -50,6 +50,10 @@ gap_line gap =
     codes "MISSING "
     ++ (segment_name gap.segment ++ (codes " " ++ (decimal gap.meter ++ (codes " " ++ decimal gap.hours))))
 
+-- a line with the break that ends it
+abbrev pub ended : List ℕ → List ℕ
+ended line = line ++ 10 ∷ []
+
 -- the lines of gaps, each ended by a line break
 abbrev pub gap_text : List Gap → List ℕ
-gap_text gaps = flat_map (λ gap. gap_line gap ++ 10 ∷ []) gaps
+gap_text gaps = flat_map (λ gap. ended (gap_line gap)) gaps

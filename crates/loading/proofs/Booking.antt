@@ -2,6 +2,7 @@
 use Rattle.std.proofs.Common.{◌≡◌, ℕ, true, List, [], ◌∷◌, ◌++◌, Some, None, Ok, Err, Option, Result, sym, refl, ap, ◌∙◌, subst}
 use Rattle.std.specs.Option.{option_map}
 use Rattle.std.proofs.lemmas.List.{append-nil}
+use Rattle.std.proofs.lemmas.Option.{none-some}
 use Rattle.plan.specs.Contents.{Contents}
 use Rattle.plan.specs.declared.booking.Booking.{Booking as Entry}
 use Rattle.words.specs.declared.word.Word.{Word}
@@ -26,7 +27,7 @@ use Rattle.loading.specs.Layers.{brought_fault, has_opened, reading_of, terms_by
 use Rattle.loading.specs.Stages.{BooksAt, WordBooked}
 use Rattle.loading.specs.declared.fault.LoadFault.TheVariants.{Booking, Reading}
 use Rattle.loading.proofs.Layered.{none_refused_push, pushed}
-use Rattle.loading.proofs.Planning.{tells_word, told_parts}
+use Rattle.loading.proofs.Planning.{tells_word, told_parts, wants_word}
 use Rattle.loading.proofs.Staged.{book_step, faulty_with, taken_with}
 
 module _ (joins : ℕ → ℕ → ℕ → ℕ) (words : List (Option Word)) (phase : Phase) (state : State) (b : BooksAt joins words phase state) (q : Contents) where
@@ -56,6 +57,12 @@ module _ (joins : ℕ → ℕ → ℕ → ℕ) (words : List (Option Word)) (pha
     stepped.0,
     stepped.1,
     b.books,
+    refl,
+    wants_word words at place bits fault after b.books.clean
+        (λ word st brought e. (
+          record { phase = st.phase; plan = plan },
+          ap (λ x. judge x word) stands_at ∙ taken_with q plan phase word st brought since e,
+        )) stepped,
     tells_word joins words at place bits fault after
         (λ word layer number e. ap (λ st. judge st word) stands_at ∙ faulty_with q plan phase word layer number since e) stepped,
   )
@@ -141,6 +148,8 @@ module _ (joins : ℕ → ℕ → ℕ → ℕ) (words : List (Option Word)) (pha
             none_refused = b.books.none_refused;
             stands = subst (λ bs. Stands terms bs then) (after_refused terms bookings entry (number_of placed.fault) refused) answered.1;
           },
+          refl,
+          λ none. absurd (none-some _ (sym none)),
           λ t is.
               let parts = told_parts BOOK (number_of placed.fault) placed.place t is in
               (by_month word after (Offtake entry) e ∙ ap (option_map (λ number. (BOOK, number))) refused ∙ parts.0, parts.1 ∙ at_place),

@@ -1,20 +1,25 @@
 -- A whole file: its plan's words, the opening, and its bookings' words. Assumes nothing.
-use Rattle.std.proofs.Common.{◌≡◌, ℕ, true, eqb, List, [], ◌∷◌, ◌++◌, Some, None, Ok, Err, Option, Result, sym, refl, ap, ◌∙◌, subst, append_assoc, arith, length-append}
-use Rattle.std.specs.Option.{option_map, option_or}
+use Rattle.std.proofs.Common.{◌≡◌, ℕ, true, eqb, List, [], ◌∷◌, ◌++◌, map, Some, None, Ok, Err, Option, Result, sym, refl, ap, ◌∙◌, subst, append_assoc, arith, length-append}
+use Rattle.std.specs.Option.{ForSome, option_map, option_or}
 use Rattle.std.specs.Prelude.{MatchResult}
 use Rattle.std.proofs.lemmas.List.{append-nil}
+use Rattle.std.proofs.lemmas.List.Folds.{flat_map-map}
 use Rattle.std.proofs.lemmas.Option.{none-some}
-use Rattle.std.proofs.lemmas.Bool.{cond-false, eqb-true}
+use Rattle.std.proofs.lemmas.Bool.{cond-false, eqb-true, false≢true}
 use Rattle.std.proofs.lemmas.Result.{MatchResult-at_err, MatchResult-at_ok}
+use Rattle.std.specs.declared.io.Read.{Ghosts as Input}
 use Rattle.plan.specs.Contents.{Contents}
 use Rattle.plan.specs.OfPlan.{contents}
+use Rattle.plan.specs.WellMade.{is_well_made}
 use Rattle.plan.specs.declared.booking.Booking.{Booking}
 use Rattle.plan.specs.declared.plan.Plan.{Plan}
 use Rattle.weights.specs.declared.source.WeightSource.{Ghosts as Source}
+use Rattle.words.specs.Bytes.{spelled}
+use Rattle.words.specs.Layout.{encoded}
 use Rattle.words.specs.declared.word.Word.{Word}
-use Rattle.input.specs.FileWords.{Ended, Gave, left_over}
+use Rattle.input.specs.FileWords.{Ended, Gave, left_over, to_come}
 use Rattle.input.specs.declared.file_words.FileWords.{FileWords}
-use Rattle.input.proofs.Runs.{gave-append}
+use Rattle.input.proofs.Runs.{all_given, gave-append, gave_bytes}
 use Rattle.month.specs.Faults.{opening_number_of}
 use Rattle.month.specs.OfMonth.{NotOpened, SourcesLeft, source_joins, state_of, terms_of}
 use Rattle.month.specs.Opening.{RefusesOpening, opening_refusal}
@@ -26,8 +31,8 @@ use Rattle.month.specs.declared.month.Month.{Month}
 use Rattle.month.specs.declared.open.Open.{Open}
 use Rattle.month.specs.declared.opening.Unopened.{Unopened}
 use Rattle.month.specs.declared.sources.Sources.{Sources}
-use Rattle.monthfile.specs.File.{file_words}
-use Rattle.monthfile.specs.Judging.{Standing, Taken, judge}
+use Rattle.monthfile.specs.File.{bytes_of, file_words}
+use Rattle.monthfile.specs.Judging.{beginning, Standing, Taken, judge}
 use Rattle.monthfile.specs.Reading.{AllDecoded, end_fault, may_end}
 use Rattle.monthfile.specs.declared.brought.Brought.TheVariants.{Opening}
 use Rattle.monthfile.specs.declared.fault.Placed.{Placed}
@@ -36,6 +41,7 @@ use Rattle.monthfile.specs.declared.telling.Layer.TheVariants.{File as FILE, Pla
 use Rattle.monthfile.specs.declared.telling.Told.{Told}
 use Rattle.monthfile.proofs.Backward.{is_file}
 use Rattle.monthfile.proofs.Entire.{decoded-bits, may_end_parts}
+use Rattle.monthfile.proofs.Held.{full_at_end, held}
 use Rattle.monthfile.proofs.OneByOne.{decoded-append}
 use Rattle.loading.specs.Faults.{told}
 use Rattle.loading.specs.Layers.{brought_fault, has_opened, opening_tells, reading_of, terms_by, verdict_fault, word_fault}
@@ -82,12 +88,22 @@ module _ {A B C D : Type 0} {a : Source A} {b : Source B} {c : Source C} {d : So
         refused.fault.sources,
         ap (λ (p : Plan). Planned p refused.fault.sources) not.plan_left,
         joins_left a b c d refused.fault.fault sources refused.fault.sources not.sources_left,
+        refl,
         λ t is.
             opening_told (terms_of a b c d plan sources) refused.fault.fault place t not.refusal
             (ap (λ n. told (Refused (record { fault = refused.fault.fault; place = n }))) (sym at) ∙ is),
       )
 
-given-append : {R : Type 0} (before middle after : FileWords R) (words more : List (Option Word)) →
+-- words that were given to the end, with no byte left over: the input has their bytes and nothing else
+file_bytes : {R : Type 0} {input : Input R} (words : List Word) (before reached after : FileWords R input) →
+    Gave before (map encoded words) reached →
+    Ended reached after →
+    left_over after ≡ 0 →
+    ForSome (to_come before) (λ bytes. bytes ≡ bytes_of words)
+file_bytes words before reached after gave ended none bytes is =
+    all_given (map encoded words) before reached after gave ended none bytes is ∙ flat_map-map spelled encoded words
+
+given-append : {R : Type 0} {input : Input R} (before middle after : FileWords R input) (words more : List (Option Word)) →
     Given before words middle →
     Given middle more after →
     Given before (words ++ more) after
@@ -131,12 +147,12 @@ opened_books joins words word at after plan state planned e same stands =
       phase_is = ap (λ (st : Standing). st.phase) more.stands;
     }
 
-module _ {A B C D R : Type 0} (a : Source A) (b : Source B) (c : Source C) (d : Source D) (sources : Sources A B C D) (before after : FileWords R) where
+module _ {A B C D R : Type 0} {input : Input R} (a : Source A) (b : Source B) (c : Source C) (d : Source D) (sources : Sources A B C D) (before after : FileWords R input) where
   abbrev joins : ℕ → ℕ → ℕ → ℕ
   joins = source_joins a b c d sources
 
   -- words that were read to the end with no fault are those of a file
-  loaded : (month : Month A B C D a b c d) (words : List (Option Word)) (reached : FileWords R) →
+  loaded : (month : Month A B C D a b c d) (words : List (Option Word)) (reached : FileWords R input) →
       Given before words reached →
       Ended reached after →
       (reading_of words).fault ≡ None →
@@ -148,14 +164,21 @@ module _ {A B C D R : Type 0} (a : Source A) (b : Source B) (c : Source C) (d : 
       let bookings : List Booking = (reading_of words).bookings in
       let ends = end_parts (reading_of words).standing after.number (left_over after) fine in
       let file = is_file plan bookings words 0 (record { no_fault = clean; ends = ends.0; planned = refl; booked = refl }) in
+      let kept = held given.bits words given.decoded beginning 0 tt in
       let bits = decoded-bits given.bits (file_words plan bookings) (subst (AllDecoded given.bits) file given.decoded) in
       record {
         plan = plan;
         bookings = bookings;
+        fileable = record {
+          made = subst (λ p. is_well_made p ≡ true) stands.contents month.plan.well_made;
+          full = full_at_end (reading_of words).standing.phase plan ends.0 kept.0;
+          held = kept.1;
+        };
         reached = reached;
         gave = subst (λ ns. Gave before ns reached) bits given.gave;
         ended = ended;
         no_more = ends.1;
+        bytes = file_bytes (file_words plan bookings) before reached after (subst (λ ns. Gave before ns reached) bits given.gave) ended ends.1;
         stands = stands;
       }
 
@@ -177,6 +200,7 @@ module _ {A B C D R : Type 0} (a : Source A) (b : Source B) (c : Source C) (d : 
       bits = s.given.bits;
       reached = s.reached;
       gave = s.given.gave;
+      bytes = gave_bytes s.given.bits before s.reached s.given.gave;
       counts = s.counts;
       taken = s.taken;
       others = s.others;
@@ -184,6 +208,8 @@ module _ {A B C D R : Type 0} (a : Source A) (b : Source B) (c : Source C) (d : 
       none_refused = s.planned.none_refused joins;
       left = left_by s.taken sources at s.planned same refl;
       tells = s.tells joins;
+      fails = s.fails;
+      wants = s.wants;
     }
 
     -- the month opens at the file's end
@@ -211,7 +237,7 @@ module _ {A B C D R : Type 0} (a : Source A) (b : Source B) (c : Source C) (d : 
           subst (LeftBy a b c d joins words) (sym opens.1) (left_by words opens.0 st planned is opens.2)
 
       refuses : (t : Told) → told stopped.fault ≡ Some t → option_map as_plan (opening_refusal (terms_by joins at.plan)) ≡ Some t
-      refuses t is = ap (λ (p : Contents). option_map as_plan (opening_refusal (terms_by joins p))) (sym same) ∙ opens.3 t is
+      refuses t is = ap (λ (p : Contents). option_map as_plan (opening_refusal (terms_by joins p))) (sym same) ∙ opens.4 t is
 
       tells_plan : (o : Option ℕ) (t : Told) →
           option_map as_plan o ≡ Some t →
@@ -227,6 +253,7 @@ module _ {A B C D R : Type 0} (a : Source A) (b : Source B) (c : Source C) (d : 
             bits = s.given.bits;
             reached = after;
             gave = s.given.gave;
+            bytes = gave_bytes s.given.bits before after s.given.gave;
             counts = refl;
             taken = s.words;
             others = Some s.word ∷ [];
@@ -236,6 +263,8 @@ module _ {A B C D R : Type 0} (a : Source A) (b : Source B) (c : Source C) (d : 
             tells = λ t is.
                 let parts = tells_plan (opening_refusal (terms_by joins at.plan)) t (refuses t is) in
                 (ap (verdict_fault joins (reading_of s.words).bookings) here ∙ parts.0, parts.1 ∙ s.placed);
+            fails = λ is. absurd (false≢true (sym opens.3 ∙ is));
+            wants = λ other none. (pushed s.words s.word at Opening s.planned.clean here).clean;
           }
 
       pub end_stopped : EndRead before after at → place ≡ after.number → StoppedBy a b c d joins stopped before after
@@ -243,6 +272,7 @@ module _ {A B C D R : Type 0} (a : Source A) (b : Source B) (c : Source C) (d : 
         bits = e.given.bits;
         reached = e.reached;
         gave = e.given.gave;
+        bytes = gave_bytes e.given.bits before e.reached e.given.gave;
         counts = e.ended.stays;
         taken = e.words;
         others = [];
@@ -257,10 +287,13 @@ module _ {A B C D R : Type 0} (a : Source A) (b : Source B) (c : Source C) (d : 
               ∙ cond-false (has_opened at.phase) None _ e.planned.planning
               ∙ refuses t is,
         );
+        fails = λ is. absurd (false≢true (sym opens.3 ∙ is));
+        wants = λ other none.
+            (e.ended, ap (λ st. end_fault st after.number (left_over after)) e.planned.stands ∙ e.fine);
       }
 
     -- the rest of the file
-    module _ (middle : FileWords R) (place : ℕ) (s : SelectRead before middle at place) (month : Month A B C D a b c d)
+    module _ (middle : FileWords R input) (place : ℕ) (s : SelectRead before middle at place) (month : Month A B C D a b c d)
         (stands : Stands (terms_of a b c d plan sources) [] (state_of month)) where
       abbrev first : List (Option Word)
       first = s.words ++ Some s.word ∷ []
@@ -285,6 +318,7 @@ module _ {A B C D R : Type 0} (a : Source A) (b : Source B) (c : Source C) (d : 
             bits = all.bits;
             reached = e.reached;
             gave = all.gave;
+            bytes = gave_bytes all.bits before e.reached all.gave;
             counts = e.counts;
             taken = first ++ e.taken;
             others = e.others;
@@ -293,6 +327,8 @@ module _ {A B C D R : Type 0} (a : Source A) (b : Source B) (c : Source C) (d : 
             left = subst (LeftBy a b c d joins (first ++ e.taken)) (sym is) e.books.stands;
             tells = λ t told_is.
                 subst (λ n. TellsOf joins (first ++ e.taken) e.others n e.reached after t) (omega arith) (e.tells t told_is);
+            fails = e.fails;
+            wants = e.wants;
           }
 
       pub rest_loads : (r : Result (Open (Month A B C D a b c d)) (Stopped A B C D a b c d)) → RestBooked a b c d joins first middle after r → Loads a b c d joins before r after

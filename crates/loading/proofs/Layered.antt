@@ -6,7 +6,7 @@ use Rattle.words.specs.declared.word.Word.{Word}
 use Rattle.monthfile.specs.Judging.{Standing, Taken, beginning, judge}
 use Rattle.monthfile.specs.Reading.{Reading, booking_of, ended, gone_on, preceded, reading}
 use Rattle.monthfile.specs.declared.brought.Brought.{Brought}
-use Rattle.monthfile.proofs.OneByOne.{block_by_block}
+use Rattle.monthfile.proofs.OneByOne.{read_after}
 use Rattle.loading.specs.Layers.{NoneRefused, reading_of, word_fault}
 
 -- what the words read with one more that FILE and PLAN take
@@ -22,7 +22,7 @@ pub pushed : (words : List (Option Word)) (word : Word) (after : Standing) (brou
 pushed words word after brought clean e =
     let r : Reading = reading_of words in
     let n : ℕ = number_at 0 (length words) in
-    let whole = block_by_block beginning 0 words (Some word ∷ []) (omega arith) clean in
+    let whole = read_after beginning 0 words (Some word ∷ []) (omega arith) clean in
     let one : reading r.standing n (Some word ∷ []) ≡ preceded brought (ended after None) =
     ap (λ v. gone_on r.standing n v (λ st. reading st (number_at n 1) [])) e in
     record {

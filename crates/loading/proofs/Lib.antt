@@ -1,5 +1,8 @@
+pub mod Accepting
+pub mod Back
 pub mod Booking
 pub mod Entire
+pub mod Handing
 pub mod Layered
 pub mod Planning
 pub mod Rest

@@ -1,13 +1,15 @@
 -- The plan's words, one by one. Assumes nothing.
-use Rattle.std.proofs.Common.{◌≡◌, ℕ, ◌+◌, List, [], ◌∷◌, ◌++◌, length, Some, None, Ok, Err, Option, sym, refl, ap, ◌∙◌, subst, arith}
+use Rattle.std.proofs.Common.{◌≡◌, ℕ, ◌+◌, true, List, [], ◌∷◌, ◌++◌, length, Some, None, Ok, Err, Option, sym, refl, ap, ◌∙◌, subst, arith}
 use Rattle.std.specs.Option.{option_or}
+use Rattle.std.proofs.lemmas.Bool.{false≢true}
 use Rattle.std.proofs.lemmas.List.{append-nil}
 use Rattle.std.proofs.lemmas.Option.{none-some, same_Some}
+use Rattle.std.specs.declared.io.Read.{Ghosts as Input}
 use Rattle.words.specs.Layout.{Decoded}
 use Rattle.words.specs.declared.word.Word.{Word}
-use Rattle.input.specs.FileWords.{Ended, WordGiven, left_over}
+use Rattle.input.specs.FileWords.{Ended, NoneGiven, WordGiven, left_over}
 use Rattle.input.specs.declared.file_words.FileWords.{FileWords}
-use Rattle.input.proofs.Runs.{gave_count, gave-push, numbered}
+use Rattle.input.proofs.Runs.{none_given-counts, gave_count, gave-push, numbered}
 use Rattle.monthfile.specs.Faults.{Stepped, blamed, told as told_by_reading}
 use Rattle.monthfile.specs.Judging.{Standing, Verdict, Faulty, Taken, beginning, judge}
 use Rattle.monthfile.specs.Reading.{end_fault}
@@ -18,7 +20,7 @@ use Rattle.monthfile.specs.declared.telling.Layer.{Layer}
 use Rattle.monthfile.specs.declared.telling.Layer.TheVariants.{File as FILE}
 use Rattle.monthfile.specs.declared.telling.Told.{Told}
 use Rattle.monthfile.proofs.OneByOne.{decoded-append, length-decoded}
-use Rattle.loading.specs.Faults.{told}
+use Rattle.loading.specs.Faults.{is_transfer, told}
 use Rattle.loading.specs.Layers.{end_tells, opening_tells, reading_of, verdict_fault, word_fault}
 use Rattle.loading.specs.Stages.{EndRead, Given, PlanStopped, PlanWords, SelectRead}
 use Rattle.loading.specs.declared.fault.LoadFault.{LoadFault}
@@ -27,7 +29,7 @@ use Rattle.loading.proofs.Layered.{none_refused_nil, none_refused_push, pushed}
 use Rattle.loading.proofs.Staged.{plan_step}
 
 -- one word more that the file gives
-pub given-push : {R : Type 0} (before middle after : FileWords R) (words : List (Option Word)) (entry : ℕ × ℕ) (word : Option Word) →
+pub given-push : {R : Type 0} {input : Input R} (before middle after : FileWords R input) (words : List (Option Word)) (entry : ℕ × ℕ) (word : Option Word) →
     Given before words middle →
     WordGiven middle entry after →
     Decoded entry.1 word →
@@ -39,11 +41,11 @@ given-push before middle after words entry word given next decoded = record {
 }
 
 -- the same words, and none beside them
-pub given-nil : {R : Type 0} (before after : FileWords R) (words : List (Option Word)) → Given before words after → Given before (words ++ []) after
+pub given-nil : {R : Type 0} {input : Input R} (before after : FileWords R input) (words : List (Option Word)) → Given before words after → Given before (words ++ []) after
 given-nil before after words given = subst (λ ws. Given before ws after) (sym (append-nil words)) given
 
 -- the number of the next word
-pub given-count : {R : Type 0} (before after : FileWords R) (words : List (Option Word)) →
+pub given-count : {R : Type 0} {input : Input R} (before after : FileWords R input) (words : List (Option Word)) →
     Given before words after →
     after.number ≡ before.number + length words
 given-count before after words given =
@@ -84,6 +86,23 @@ tells_word joins words at place bits fault after faulty (Some word, decoded, (te
         (ap (verdict_fault joins (reading_of words).bookings) (faulty word layer number e) ∙ parts.0, parts.1)
     go (Taken st brought) e b = absurd (none-some _ b)
 
+-- where nothing is told of a word, FILE and PLAN take it
+pub wants_word : (words : List (Option Word)) (at : Standing) (place bits : ℕ) (fault : ReadFault) (after : Standing) →
+    (reading_of words).fault ≡ None →
+    ((word : Word) (then : Standing) (brought : Brought) →
+    judge at word ≡ Taken then brought →
+    (st : Standing) × (judge (reading_of words).standing word ≡ Taken st brought)) →
+    (stepped : Stepped at place bits (Err fault) after) →
+    told_by_reading fault ≡ None →
+    (reading_of (words ++ stepped.0 ∷ [])).fault ≡ None
+wants_word words at place bits fault after clean taken (None, decoded, (tells, same)) none = absurd (none-some _ (sym none ∙ tells))
+wants_word words at place bits fault after clean taken (Some word, decoded, (tells, same)) none =
+    go (judge at word) refl (sym none ∙ tells)
+  where
+    go : (v : Verdict) → judge at word ≡ v → None ≡ blamed place v → (reading_of (words ++ Some word ∷ [])).fault ≡ None
+    go (Faulty layer number) e b = absurd (none-some _ b)
+    go (Taken then brought) e b = let t = taken word then brought e in (pushed words word t.0 brought clean t.1).clean
+
 -- what FILE tells of the end, all layers tell
 pub tells_end : (joins : ℕ → ℕ → ℕ → ℕ) (words : List (Option Word)) (at : Standing) (place over : ℕ) (t : Told) →
     (reading_of words).standing ≡ at →
@@ -118,31 +137,34 @@ plan_push words at word after p e =
       planning = plan_step at word after Nothing p.planning e;
     }
 
-module _ {R : Type 0} (before : FileWords R) where
+module _ {R : Type 0} {input : Input R} (before : FileWords R input) where
   -- the plan's words so far
-  abbrev pub PlanSoFar : FileWords R → Standing → Type 0
+  abbrev pub PlanSoFar : FileWords R input → Standing → Type 0
   PlanSoFar file standing = (words : List (Option Word)) × Given before words file × PlanWords words standing
 
   pub plan_begun : (standing : Standing) → standing ≡ beginning → PlanSoFar before standing
   plan_begun standing e = ([], record { bits = []; gave = refl; decoded = tt }, subst (PlanWords []) (sym e) plan_none)
 
   -- the input failed
-  pub plan_failed : (file after : FileWords R) (at : Standing) (fault : LoadFault) →
+  pub plan_failed : (file after : FileWords R input) (at : Standing) (fault : LoadFault) →
       PlanSoFar file at →
-      after.number ≡ file.number →
+      NoneGiven file after →
+      is_transfer fault ≡ true →
       told fault ≡ None →
       PlanStopped before after at fault
-  plan_failed file after at fault (words, given, planned) counts none = record {
+  plan_failed file after at fault (words, given, planned) failed transfer none = record {
     taken = words;
     others = [];
     reached = file;
     given = given-nil before file words given;
-    counts = counts;
+    counts = none_given-counts file after failed;
     planned = planned;
     tells = λ joins t is. absurd (none-some _ (sym none ∙ is));
+    fails = λ is. (refl, failed);
+    wants = λ other. absurd (false≢true (sym other ∙ transfer));
   }
 
-  module _ (file after : FileWords R) (at then : Standing) (so_far : PlanSoFar file at) where
+  module _ (file after : FileWords R input) (at then : Standing) (so_far : PlanSoFar file at) where
     -- one word more
     module _ (entry : ℕ × ℕ) (next : WordGiven file entry after) where
       pub plan_more : (brought : Brought) →
@@ -181,6 +203,10 @@ module _ {R : Type 0} (before : FileWords R) where
         tells = λ joins t is.
             let told = tells_word joins so_far.0 at entry.0 entry.1 fault then (λ word layer number e. ap (λ st. judge st word) so_far.2.stands ∙ e) stepped t is in
             (told.0, told.1 ∙ numbered file after entry next ∙ given-count before file so_far.0 so_far.1);
+        fails = λ is. absurd (false≢true is);
+        wants = λ other.
+            wants_word so_far.0 at entry.0 entry.1 fault then so_far.2.clean
+            (λ word st brought e. (st, ap (λ x. judge x word) so_far.2.stands ∙ e)) stepped;
       }
 
     -- the file's end
@@ -207,4 +233,7 @@ module _ {R : Type 0} (before : FileWords R) where
         planned = so_far.2;
         tells = λ joins t is.
             (ended, tells_end joins so_far.0 at after.number (left_over after) t so_far.2.stands (sym tells ∙ is));
+        fails = λ is. absurd (false≢true is);
+        wants = λ other none.
+            (ended, ap (λ st. end_fault st after.number (left_over after)) so_far.2.stands ∙ sym tells ∙ none);
       }

@@ -1,6 +1,6 @@
 // Loads a month file into an open month.
 ghost use Rattle.month.specs.OfMonth.{source_joins};
-ghost use Rattle.loading.specs.Loading.{Loads};
+ghost use Rattle.loading.specs.Loading.{HandsBack, Loads, LoadsFile};
 
 use crate::bookings::Bookings;
 use crate::left::{Left, Stopped};
@@ -19,7 +19,9 @@ pub fn load<R: Read, A: WeightSource, B: WeightSource, C: WeightSource, D: Weigh
     file: &mut FileWords<R>,
     sources: Sources<A, B, C, D>,
 ) -> Result<Open<Month<A, B, C, D>>, Stopped<A, B, C, D>>
-    ensures { Loads A.WeightSource B.WeightSource C.WeightSource D.WeightSource (source_joins A.WeightSource B.WeightSource C.WeightSource D.WeightSource sources) file.old result file.new }
+    ensures loads { Loads A.WeightSource B.WeightSource C.WeightSource D.WeightSource (source_joins A.WeightSource B.WeightSource C.WeightSource D.WeightSource sources) file.old result file.new }
+    ensures back { LoadsFile A.WeightSource B.WeightSource C.WeightSource D.WeightSource (source_joins A.WeightSource B.WeightSource C.WeightSource D.WeightSource sources) file.old result }
+    ensures handed { HandsBack A.WeightSource B.WeightSource C.WeightSource D.WeightSource sources result }
 {
     let mut reader = Reader::new(heap);
     let read = read_plan(file, &mut reader);

@@ -1,10 +1,13 @@
-// Openings, bookings, questions and weights at their limits, and what each answers.
+// Openings, bookings, questions and weights at their limits, and what each answers; and a file that is cut, and what its
+// loading leaves.
 #![tactic(auto)]
 
+mod files;
 mod plans;
 mod steep;
 
 use anyhow::Context;
+use files::show_files;
 use month::{Answer, BookingFault, Call, Month, Open, Sources, Unopened};
 use plan::{Booking, Plan};
 use plans::plan_of;
@@ -71,7 +74,7 @@ fn show_source(rt: &HostRuntime) -> anyhow::Result<()> {
     show_weight(rt, "meter 64", source.weight(64))
 }
 
-// Tells why a month was not opened, and hands its sources back.
+// Tells whether a month was opened, or why not, and hands its sources back.
 fn show_unopened(
     rt: &HostRuntime,
     label: &str,
@@ -196,5 +199,6 @@ fn show_open(rt: &HostRuntime) -> anyhow::Result<()> {
 fn main(rt: HostRuntime) -> anyhow::Result<()> {
     show_source(&rt)?;
     show_openings(&rt)?;
-    show_open(&rt)
+    show_open(&rt)?;
+    show_files(&rt)
 }

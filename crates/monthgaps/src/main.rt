@@ -3,13 +3,11 @@
 #![tactic(auto)]
 
 use anyhow::anyhow;
-use input::FileWords;
-use lines::{FaultLine, gap_text};
-use loading::{LoadFault, Stopped, load};
-use month::{Month, Open, Sources};
+use loading::LoadFault;
+use month::Sources;
+use reporting::{ReportFault, report_gaps};
+use std::io;
 use weights::{Adding, Greatest};
-
-type ProductMonth = Open<Month<Greatest, Greatest, Adding, Adding>>;
 
 // AMR and S30 weigh a meter by its greatest amount, MRC and EAV by the sum of its amounts.
 fn sources() -> Sources<Greatest, Greatest, Adding, Adding> {
@@ -21,37 +19,18 @@ fn sources() -> Sources<Greatest, Greatest, Adding, Adding> {
     }
 }
 
-fn show(rt: &HostRuntime, month: &ProductMonth) -> anyhow::Result<()> {
-    let gaps = month.gaps(rt.alloc())?;
-    let text = gap_text(rt.alloc(), gaps.as_slice())?;
-    rt.print(text)?;
-    Ok(())
-}
-
-// Prints the line of the fault. Want of memory and an input that fails have none.
-fn tell(rt: &HostRuntime, fault: LoadFault) -> anyhow::Result<()> {
-    if let Some(told) = fault.told() {
-        let line = FaultLine(told);
-        println!(rt; "{line}")?;
-        return Err(anyhow!("the file has a fault"));
-    }
+// What the program ends with at a fault.
+fn ending(fault: ReportFault) -> anyhow::Error {
     match fault {
-        LoadFault::Transfer(error) => Err(error.into()),
-        _ => Err(anyhow!("out of memory")),
+        ReportFault::Loading(LoadFault::Transfer(error)) | ReportFault::Output(error) => {
+            error.into()
+        }
+        ReportFault::Loading(fault) if fault.told().is_some() => anyhow!("the file has a fault"),
+        _ => anyhow!("out of memory"),
     }
 }
 
 fn main(rt: HostRuntime) -> anyhow::Result<()> {
-    let mut file = FileWords::new(rt.alloc(), rt.stdin())?;
-    match load(rt.alloc(), &mut file, sources()) {
-        Ok(month) => {
-            let shown = show(&rt, &month);
-            let _ = month.abandon();
-            shown
-        }
-        Err(Stopped { fault, left }) => {
-            let _ = left.abandon();
-            tell(&rt, fault)
-        }
-    }
+    let mut out = io::writer(&rt);
+    report_gaps(rt.alloc(), rt.stdin(), sources(), &mut out).map_err(ending)
 }

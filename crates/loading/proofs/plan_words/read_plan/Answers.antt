@@ -14,7 +14,7 @@ returns-in_err-place g c =
     let failed = Transfer c.in_err-place.field-0.0 in
     rw (err_is c.from_residual.result failed c.from_residual.ensures.1) (
     plan_failed c.args.file.now c.loop-place.file c.next.new.self (standing_of c.loop-place.reader) failed
-    c.loop-place.invariant c.in_err-place.ensures refl
+    c.loop-place.invariant c.in_err-place.ensures refl refl
     )
 
 pub returns-in_err-step : goal.returns-in_err-step
@@ -45,11 +45,11 @@ returns-in_err-check_end g c =
     rw (err_is c.from_residual-in_err-check_end.result (Reading c.in_err-check_end.field-0.0) c.from_residual-in_err-check_end.ensures.1) (
     plan_cut_short c.args.file.now c.loop-place.file c.next.new.self (standing_of c.loop-place.reader) (standing_of c.loop-place.reader)
     c.loop-place.invariant ended c.in_err-check_end.field-0.0
-    (c.in_err-check_end.ensures ∙ end_asked (standing_of c.loop-place.reader) _ _ _ _ c.number.ensures c.left_over.ensures)
+    (c.in_err-check_end.ensures.answer ∙ end_asked (standing_of c.loop-place.reader) _ _ _ _ c.number.ensures c.left_over.ensures)
     )
 
 pub returns : goal.returns
 returns g c =
     let ended = rw c.in_default.is at c.in_ok-place.ensures in
     plan_ended c.args.file.now c.loop-place.file c.next.new.self (standing_of c.loop-place.reader) (standing_of c.loop-place.reader)
-    c.loop-place.invariant ended (sym (end_asked (standing_of c.loop-place.reader) _ _ _ _ c.number.ensures c.left_over.ensures) ∙ c.in_ok-check_end.ensures)
+    c.loop-place.invariant ended (sym (end_asked (standing_of c.loop-place.reader) _ _ _ _ c.number.ensures c.left_over.ensures) ∙ c.in_ok-check_end.ensures.answer)

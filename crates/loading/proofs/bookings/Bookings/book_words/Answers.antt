@@ -12,7 +12,7 @@ returns-in_err-place g c = λ joins words b.
     let failed = Transfer c.in_err-place.field-0.0 in
     rw (err_is c.from_residual.result failed c.from_residual.ensures.1) (
     books_failed joins words c.args.file.now c.loop-place.file c.next.new.self c.loop-place.self.reader.phase _
-    (c.loop-place.invariant joins words b) failed c.in_err-place.ensures refl
+    (c.loop-place.invariant joins words b) failed c.in_err-place.ensures refl refl
     )
 
 pub loop-place-preserved : goal.loop-place-preserved
@@ -37,7 +37,7 @@ returns-in_err-check_end g c = λ joins words b.
     let asked = end_asked (standing_of c.loop-place.self.reader) _ _ _ _ c.number.ensures c.left_over.ensures in
     rw (err_is c.from_residual-in_err-check_end.result (Reading c.in_err-check_end.field-0.0) c.from_residual-in_err-check_end.ensures.1) (
     books_cut_short joins words c.args.file.now c.loop-place.file c.next.new.self c.loop-place.self.reader.phase _
-    (c.loop-place.invariant joins words b) ended (contents c.loop-place.self.reader.plan) c.in_err-check_end.field-0.0 (c.in_err-check_end.ensures ∙ asked)
+    (c.loop-place.invariant joins words b) ended (contents c.loop-place.self.reader.plan) c.in_err-check_end.field-0.0 (c.in_err-check_end.ensures.answer ∙ asked)
     )
 
 pub returns : goal.returns
@@ -45,4 +45,4 @@ returns g c = λ joins words b.
     let ended = rw c.in_default.is at c.in_ok-place.ensures in
     let asked = end_asked (standing_of c.loop-place.self.reader) _ _ _ _ c.number.ensures c.left_over.ensures in
     books_ended joins words c.args.file.now c.loop-place.file c.next.new.self c.loop-place.self.reader.phase _
-    (c.loop-place.invariant joins words b) ended (contents c.loop-place.self.reader.plan) (sym asked ∙ c.in_ok-check_end.ensures)
+    (c.loop-place.invariant joins words b) ended (contents c.loop-place.self.reader.plan) (sym asked ∙ c.in_ok-check_end.ensures.answer)

@@ -1,0 +1,2 @@
+-- What the proofs of a report cite.
+mod Written

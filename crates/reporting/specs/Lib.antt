@@ -1,0 +1,2 @@
+-- The definitions that the contract of a report cites.
+pub mod Reporting
