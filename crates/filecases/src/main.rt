@@ -5,6 +5,7 @@ use anyhow::Context;
 use lines::FaultLine;
 use monthfile::read;
 use std::alloc::{AllocError, Global};
+use words::WORD_BYTES;
 
 // The worked file of July 2022.
 const JULY: [u32; 17] = [
@@ -26,7 +27,7 @@ const KINDS: [u32; 16] = [
 ];
 
 // How many bytes two words have.
-const LAST_TWO: usize = 8;
+const LAST_TWO: usize = 2 * WORD_BYTES;
 
 // How many words of EACH_KIND come before the carried peak.
 const METERS: usize = 10;
