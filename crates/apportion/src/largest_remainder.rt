@@ -64,18 +64,20 @@ impl Apportionment<'_> {
         requires { position < length self.now.weights.now }
         ensures { result ≡ ahead self.now.total self.now.weights.now position }
     {
+        let own = self.remainder(position);
         (0..self.weights.len())
-            .filter(|other| self.precedes(*other, position))
-            .count()
+            .map(|other| usize::from(self.precedes(other, position, own)))
+            .sum()
     }
 
-    // A larger remainder precedes; of equal remainders the one at the lower position does.
-    fn precedes(&self, other: usize, position: usize) -> bool
+    // A larger remainder precedes; of equal remainders the one at the lower position does. The position's own remainder is
+    // handed in, so that it is worked out once for all others.
+    fn precedes(&self, other: usize, position: usize, own: u64) -> bool
         requires other { other < length self.now.weights.now }
-        requires position { position < length self.now.weights.now }
+        requires own { own ≡ remainder self.now.total self.now.weights.now position }
         ensures { result ≡ precedes self.now.total self.now.weights.now other position }
     {
-        (self.remainder(position), other) < (self.remainder(other), position)
+        (own, other) < (self.remainder(other), position)
     }
 
     // What rounding down cut off, times the whole.
