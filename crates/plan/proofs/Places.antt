@@ -65,12 +65,17 @@ module _ {X : Type 0} (place_of : X → ℕ × ℕ) (xs : List X) (ascent : asce
           | inr (inr more) ↦ absurd (omega arith)
         ]
 
+    -- the entry that stands somewhere in the list, and has the place
+    pub stands_at : (i : ℕ) (x : X) → i < length xs → x ≡ get_or xs i x → is_place (place_of x) k ≡ true → Some x ≡ first_of (λ y. is_place (place_of y) k) xs
+    stands_at i x within item same =
+        sym (first_only (λ a b. place_precedes (place_of a) (place_of b)) (λ y. is_place (place_of y) k) (λ a b. places_apart k (place_of a) (place_of b)) xs x ascent (i, within, λ d. get_or_default xs i d x within ∙ sym item) same)
+
     pub first_found : (r : Result ℕ ℕ) (at : ℕ) (x : X) → IsSearchInRange r (length xs) → IsBinarySearchResult (λ y. place_cmp (place_of y) k) xs r → Some at ≡ result_ok r → x ≡ get_or xs at x → Some x ≡ first_of (λ y. is_place (place_of y) k) xs
     first_found (Err i) at x within found is item = absurd (grind arith)
     first_found (Ok i) at x within found is item =
         let same : at ≡ i = grind arith in
         let equal : place_cmp (place_of x) k ≡ Equal = ap (λ y. place_cmp (place_of y) k) (item ∙ ap (λ n. get_or xs n x) same) ∙ found x in
-        sym (first_only (λ a b. place_precedes (place_of a) (place_of b)) (λ y. is_place (place_of y) k) (λ a b. places_apart k (place_of a) (place_of b)) xs x ascent (i, within, λ d. get_or_default xs i d x within ∙ ap (λ n. get_or xs n x) (sym same) ∙ sym item) (here (place_of x) k equal))
+        stands_at i x within (item ∙ ap (λ n. get_or xs n x) same) (here (place_of x) k equal)
 
     pub first_missed : (r : Result ℕ ℕ) → IsBinarySearchResult (λ y. place_cmp (place_of y) k) xs r → None ≡ result_ok r → first_of (λ y. is_place (place_of y) k) xs ≡ None
     first_missed (Ok i) found is = absurd (grind arith)
