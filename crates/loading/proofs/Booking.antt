@@ -37,7 +37,7 @@ module _ (joins : ℕ → ℕ → ℕ → ℕ) (words : List (Option Word)) (pha
   abbrev bookings : List Entry
   bookings = (reading_of words).bookings
 
-  abbrev terms : Terms
+  abbrev pub terms : Terms
   terms = terms_by joins plan
 
   -- the reader, whose plan was handed out

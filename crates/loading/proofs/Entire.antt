@@ -57,7 +57,7 @@ use Rattle.loading.proofs.Planning.{given-count, told_parts}
 use Rattle.loading.proofs.Staged.{plan_step}
 
 -- what a refused opening tells
-opening_told : (terms : Terms) (fault : OpeningFault) (place : ℕ) (t : Told) →
+pub opening_told : (terms : Terms) (fault : OpeningFault) (place : ℕ) (t : Told) →
     RefusesOpening terms fault →
     option_map (λ number. record { layer = PLAN; number = number; place = place }) (opening_number_of fault) ≡ Some t →
     option_map (λ number. record { layer = PLAN; number = number; place = place }) (opening_refusal terms) ≡ Some t
@@ -66,7 +66,7 @@ opening_told terms (Peak fault) place t refuses is = ap (option_map (λ number. 
 opening_told terms Memory place t refuses is = absurd (none-some _ is)
 
 -- the sources that a refused opening hands back join as before
-joins_left : {A B C D : Type 0} (a : Source A) (b : Source B) (c : Source C) (d : Source D) (fault : OpeningFault) (before after : Sources A B C D) →
+pub joins_left : {A B C D : Type 0} (a : Source A) (b : Source B) (c : Source C) (d : Source D) (fault : OpeningFault) (before after : Sources A B C D) →
     SourcesLeft a b c d fault before after →
     source_joins a b c d after ≡ source_joins a b c d before
 joins_left a b c d NotFull before after same = ap (source_joins a b c d) same

@@ -76,7 +76,7 @@ room_rest out ws vs after room put =
     }
 
 -- words that are put, and others after them
-put_then : {out : Output} {ws vs : List Word} {middle after : Output} → RoomFor out (ws ++ vs) → WordsPut out ws middle → WordsPut middle vs after
+pub put_then : {out : Output} {ws vs : List Word} {middle after : Output} → RoomFor out (ws ++ vs) → WordsPut out ws middle → WordsPut middle vs after
     → WordsPut out (ws ++ vs) after
 put_then {out} {ws} {vs} {middle} room put more = record {
   same_reference = more.same_reference ∙ put.same_reference;
